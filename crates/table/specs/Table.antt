@@ -1,0 +1,108 @@
+-- The rules of the table: a code and a table for any table, any count and any step. The contracts, the run and the demands all speak of these.
+use Prim.Native.Nat.{ℕ, _+_, _-_}
+use mathlib.Core.Bool.{Bool, true, false, cond, _&&_}
+use mathlib.Core.List.{List, [], _∷_}
+use lib.Dec.{eqb}
+use lib.ListN.{length, getD, set, replicate}
+use Rattle.station.specs.declared.Head.{Head}
+use Rattle.station.specs.declared.Cells.{Cells}
+use Rattle.station.specs.declared.Station.{Station}
+use Rattle.station.specs.declared.Outcome.{Outcome}
+use Rattle.station.specs.declared.Step.{Step}
+use Rattle.station.specs.Names.{HOLDING, STATIONS, ACCEPTED, BAD_COUNT, NOT_WELL_FORMED, NO_SUCH_STATION}
+use Rattle.station.specs.Rules.{countOk, isStation, stationsOk, namedBy, peerOf, indexOf, outcome}
+use Rattle.station.specs.Form.{newCells, newStation, recordOk}
+
+-- ---- what a table holds
+-- what is read past the end of a list: zeros
+abbrev pub noHead : Head
+noHead = record { place = 0; own = 0; high = 0; next = 0; due = 0 }
+
+abbrev pub noStation : Station
+noStation = record { head = noHead; cells = [] }
+
+-- the head of the record at index i, and its cells for the peer at index j
+abbrev pub headIn : List Station → ℕ → Head
+headIn t i = getD t i noStation .head
+
+abbrev pub cellsIn : List Station → ℕ → ℕ → Cells
+cellsIn t i j = getD (getD t i noStation .cells) j newCells
+
+-- the table with another head there, with other cells there
+abbrev pub putHead : List Station → ℕ → Head → List Station
+putHead t i head = set t i (record { head = head; cells = getD t i noStation .cells })
+
+abbrev pub putCells : List Station → ℕ → ℕ → Cells → List Station
+putCells t i j cells = set t i (record { head = headIn t i; cells = set (getD t i noStation .cells) j cells })
+
+-- the head of station s, zeros where there is no such record
+unfoldable pub headOf : List Station → ℕ → Head
+headOf t s = cond (isStation (length t) s) (headIn t (s - 1)) noHead
+
+-- ---- opening
+-- 01, "The table": "Opening writes all 32 records"
+abbrev pub opened : List Station
+opened = replicate STATIONS newStation
+
+-- 01, codes 1 and 2: "opening with N outside 2 to 32"; "at opening, only that it hasn't 32 records"; "at opening 1, 2"
+unfoldable pub openCode : ℕ → ℕ → ℕ
+openCode len n = cond (countOk n) (cond (eqb len STATIONS) ACCEPTED NOT_WELL_FORMED) BAD_COUNT
+
+abbrev pub openAnswer : ℕ → List Station → ℕ
+openAnswer n t = openCode (length t) n
+
+-- 01, "Codes": "Every refusal leaves the whole table and the count unchanged"
+unfoldable pub openAfter : ℕ → List Station → List Station
+openAfter n t = cond (eqb (openAnswer n t) ACCEPTED) opened t
+
+-- ---- the form of a table
+-- 01, "The table": "A table is well formed when it has 32 records, N is 2 to 32", and each record has its form
+unfoldable pub recordsOk : ℕ → ℕ → List Station → Bool
+recordsOk n s [] = true
+recordsOk n s (r ∷ rs) = recordOk n s r && recordsOk n (s + 1) rs
+
+unfoldable pub sized : ℕ → ℕ → Bool
+sized len n = eqb len STATIONS && countOk n
+
+unfoldable pub wellFormed : ℕ → List Station → Bool
+wellFormed n t = sized (length t) n && recordsOk n 1 t
+
+-- ---- a step
+-- the indices of the station that a step names and of its peer
+abbrev pub seat : Step → ℕ
+seat x = indexOf (namedBy x)
+
+abbrev pub seatOf : Step → ℕ → ℕ
+seatOf x next = indexOf (peerOf x next)
+
+abbrev pub peerSeat : List Station → Step → ℕ
+peerSeat t x = seatOf x (headIn t (seat x) .next)
+
+-- what the step's row makes of the head and of the two cells between the station and its peer
+abbrev pub outcomeIn : ℕ → List Station → Step → Outcome
+outcomeIn n t x = outcome n x (headIn t (seat x)) (cellsIn t (seat x) (peerSeat t x)) (cellsIn t (peerSeat t x) (seat x))
+
+-- the table with an outcome of the stations at i and j in it
+abbrev pub landed : Outcome → List Station → ℕ → ℕ → List Station
+landed out t i j = putCells (putCells (putHead t i (out .head)) i j (out .mine)) j i (out .theirs)
+
+-- 01, "Codes": "at a step 2, 3, 4, then 5, 6 or 7, then 8. The first that applies is returned"
+unfoldable pub firstRefusal : Bool → ℕ → Step → ℕ
+firstRefusal form n x = cond form (cond (stationsOk n x) ACCEPTED NO_SUCH_STATION) NOT_WELL_FORMED
+
+unfoldable pub answer : ℕ → List Station → Step → ℕ
+answer n t x =
+    cond (eqb (firstRefusal (wellFormed n t) n x) ACCEPTED) (outcomeIn n t x .code) (firstRefusal (wellFormed n t) n x)
+
+-- 01, "Codes": "Every refusal leaves the whole table .. unchanged. An accepted step changes only what its row names"
+unfoldable pub after : ℕ → List Station → Step → List Station
+after n t x = cond (eqb (answer n t x) ACCEPTED) (landed (outcomeIn n t x) t (seat x) (peerSeat t x)) t
+
+-- ---- who holds the turn
+-- 01, "Frames": "the station in Holding, 00 for none"; of several, which no reached table has, the lowest
+unfoldable pub holderFrom : ℕ → List Station → ℕ
+holderFrom s [] = 0
+holderFrom s (r ∷ rs) = cond (eqb (r .head .place) HOLDING) s (holderFrom (s + 1) rs)
+
+abbrev pub holder : List Station → ℕ
+holder t = holderFrom 1 t

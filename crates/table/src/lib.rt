@@ -1,0 +1,156 @@
+// The lent table: opened, checked, stepped in place and read, as a slice of station records with the count of stations beside it.
+use station::ACCEPTED;
+use station::BAD_COUNT;
+use station::HOLDING;
+use station::Head;
+use station::NO_SUCH_STATION;
+use station::NOT_WELL_FORMED;
+use station::STATIONS;
+use station::Station;
+use station::Step;
+ghost use mathlib.Core.Path.{_≡_};
+ghost use Prim.Native.Nat.{_<_};
+ghost use lib.ListN.{length};
+ghost use Rattle.station.specs.Rules.{outcome};
+ghost use Rattle.table.specs.Table.{headIn, cellsIn, headOf, noHead, landed, openCode, openAnswer, openAfter, wellFormed, sized, firstRefusal, seatOf, answer, after, holder};
+
+// What opening answers, by the length of the table and the count.
+fn opening(len: usize, n: usize) -> u8
+    ensures { λ r. ⌜ r ≡ openCode len n ⌝ }
+{
+    if station::count_ok(n) {
+        if len == STATIONS {
+            return ACCEPTED;
+        }
+        return NOT_WELL_FORMED;
+    }
+    BAD_COUNT
+}
+
+// Opens a network of n stations over whatever the table held.
+pub fn open(table: &mut [Station], n: usize) -> u8
+    ensures { λ r. ⌜ (r ≡ openAnswer n (now (table .entry))) × (now (table .exit) ≡ openAfter n (now (table .entry))) ⌝ }
+{
+    let code = opening(table.len(), n);
+    if code == ACCEPTED {
+        let new = station::new_station();
+        let mut i: usize = 0;
+        while i < table.len() {
+            table[i] = new;
+            i += 1;
+        }
+    }
+    code
+}
+
+// Whether a table of len records can be one for n stations.
+fn is_sized(len: usize, n: usize) -> bool
+    ensures { λ r. ⌜ r ≡ sized len n ⌝ }
+{
+    if len == STATIONS {
+        return station::count_ok(n);
+    }
+    false
+}
+
+// The check of the whole table. It stops at the first record that has not its form.
+pub fn well_formed(table: &[Station], n: usize) -> bool
+    ensures { λ r. ⌜ r ≡ wellFormed n (now (table .entry)) ⌝ }
+{
+    if is_sized(table.len(), n) {
+        let mut i: usize = 0;
+        while i < table.len() {
+            let station = table[i];
+            if station::record_ok(n, i + 1, station) {
+                i += 1;
+            } else {
+                return false;
+            }
+        }
+        return true;
+    }
+    false
+}
+
+// The refusals that come before those of the step itself.
+fn first_refusal(form: bool, n: usize, step: Step) -> u8
+    ensures { λ r. ⌜ r ≡ firstRefusal form n step ⌝ }
+{
+    if form {
+        if station::stations_ok(n, step) {
+            return ACCEPTED;
+        }
+        return NO_SUCH_STATION;
+    }
+    NOT_WELL_FORMED
+}
+
+// The index of the peer whose cells a step may touch.
+fn seat_of(step: Step, next: u8) -> usize
+    ensures { λ r. ⌜ (r ≡ seatOf step next) × (r < 32) ⌝ }
+{
+    station::index_of(station::peer_of(step, next))
+}
+
+// The step between the stations at the indices i and j: the head and the two cells are read, and stored as they come out.
+fn act_on(table: &mut [Station], n: usize, step: Step, i: usize, j: usize) -> u8
+    requires { ⌜ ((i < length (now table)) × (j < length (now table))) × ((i < 32) × (j < 32)) ⌝ }
+    ensures { λ r. ⌜ (r ≡ outcome n step (headIn (now (table .entry)) i) (cellsIn (now (table .entry)) i j) (cellsIn (now (table .entry)) j i) .code)
+        × (now (table .exit) ≡ landed (outcome n step (headIn (now (table .entry)) i) (cellsIn (now (table .entry)) i j) (cellsIn (now (table .entry)) j i)) (now (table .entry)) i j) ⌝ }
+{
+    let head = table[i].head;
+    let mine = table[i].cells[j];
+    let theirs = table[j].cells[i];
+    let out = station::act(n, step, head, mine, theirs);
+    table[i].head = out.head;
+    table[i].cells[j] = out.mine;
+    table[j].cells[i] = out.theirs;
+    out.code
+}
+
+// One step of the network: the check, then the step.
+pub fn step(table: &mut [Station], n: usize, step: Step) -> u8
+    ensures { λ r. ⌜ (r ≡ answer n (now (table .entry)) step) × (now (table .exit) ≡ after n (now (table .entry)) step) ⌝ }
+{
+    let form = well_formed(table, n);
+    let code = first_refusal(form, n, step);
+    if code == ACCEPTED {
+        let i = station::index_of(station::named_by(step));
+        let next = table[i].head.next;
+        let j = seat_of(step, next);
+        act_on(table, n, step, i, j)
+    } else {
+        code
+    }
+}
+
+// The station that holds the turn, the lowest one in a table that has several; 0 for none.
+pub fn holder_of(table: &[Station]) -> usize
+    ensures { λ r. ⌜ r ≡ holder (now (table .entry)) ⌝ }
+{
+    let mut i: usize = 0;
+    while i < table.len() {
+        if table[i].head.place == HOLDING {
+            return i + 1;
+        }
+        i += 1;
+    }
+    0
+}
+
+// The head of station s, and zeros where the table has no such record.
+pub fn head_of(table: &[Station], s: usize) -> Head
+    ensures { λ r. ⌜ r ≡ headOf (now (table .entry)) s ⌝ }
+{
+    if station::is_station(table.len(), s) {
+        let i = s - 1;
+        return table[i].head;
+    }
+    Head {
+        place: 0,
+        own: 0,
+        high: 0,
+        next: 0,
+        due: 0,
+    }
+}
