@@ -1,0 +1,213 @@
+-- Demands 2 and 3, of an engine's rules: any pair of an answer and an after. This one file says what was proved; its terms are those of Figure 1 (crate figure1) and of 01's table (crate table).
+use mathlib.Core.Path.{_≡_}
+use mathlib.Core.Logic.{_≢_}
+use mathlib.Core.Bool.{Bool, true, false, cond, not, _&&_}
+use mathlib.Core.List.{List, [], _∷_, _++_}
+use Prim.Native.Nat.{ℕ, _+_, _-_, _≤_, _<_}
+use lib.Dec.{eqb, leb}
+use lib.ListN.{length}
+use Rattle.station.specs.declared.Head.{Head}
+use Rattle.station.specs.declared.Station.{Station}
+use Rattle.station.specs.declared.Step.{Step}
+use Rattle.station.specs.declared.Step.the-variants.{Ask, Send, Enter, Leave, Give, TakeRequest, TakeAnswer}
+use Rattle.station.specs.Names.{IDLE, SENDING, WAITING, HOLDING, GIVING, LAST_NUMBER, ACCEPTED, NOT_WELL_FORMED, AT_ODDS}
+use Rattle.table.specs.Table.{headIn, cellsIn, opened, wellFormed, answer, after}
+use Rattle.figure1.specs.Figure1.{Location, m1, m2, m31, m32, m4, m5, m6, m71, m72, Node, State, initial, Label, M, q1, r1, does, Run}
+
+-- ---- an engine, and what it makes of a list of offered steps
+pub record Engine : Type 0 where
+  pub answer : ℕ → List Station → Step → ℕ
+  pub after : ℕ → List Station → Step → List Station
+
+-- the rules that the contract of `table::step` cites
+abbrev pub ours : Engine
+ours = record { answer = answer; after = after }
+
+abbrev pub accepts : Engine → ℕ → List Station → Step → Bool
+accepts E n t x = eqb (E .answer n t x) ACCEPTED
+
+-- the table after a list of offered steps, refused ones among them
+unfoldable pub tableAfter : Engine → ℕ → List Station → List Step → List Station
+tableAfter E n t [] = t
+tableAfter E n t (x ∷ xs) = tableAfter E n (E .after n t x) xs
+
+abbrev pub reached : Engine → ℕ → List Step → List Station
+reached E n xs = tableAfter E n opened xs
+
+-- those of the steps that are accepted
+unfoldable pub acceptedOf : Engine → ℕ → List Station → List Step → List Step
+acceptedOf E n t [] = []
+acceptedOf E n t (x ∷ xs) = cond (accepts E n t x) (x ∷ acceptedOf E n (E .after n t x) xs) (acceptedOf E n (E .after n t x) xs)
+
+-- ---- how steps and transitions correspond: 01, "Against Figure 1"
+-- "m1 and m2 are Ask; m32 is Send; m4 is Enter; m5 and m6 are Leave; m72 is Give; q1 and r1 are the takes", with the loop test that follows
+abbrev pub word : Step → List Label
+word (Ask s) = M m1 s ∷ M m2 s ∷ M m31 s ∷ []
+word (Send s) = M m32 s ∷ M m31 s ∷ []
+word (Enter s) = M m4 s ∷ []
+word (Leave s) = M m5 s ∷ M m6 s ∷ M m71 s ∷ []
+word (Give s) = M m72 s ∷ M m71 s ∷ []
+word (TakeRequest s t) = q1 s t ∷ []
+word (TakeAnswer s t) = r1 s t ∷ []
+
+unfoldable pub words : List Step → List Label
+words [] = []
+words (x ∷ xs) = word x ++ words xs
+
+-- the other way, for any interleaving: a step counts where its variables change, at m2 and m6; "The loop tests m31 and m71 are no steps"
+abbrev pub stepAt : Label → List Step
+stepAt (M m1 s) = []
+stepAt (M m2 s) = Ask s ∷ []
+stepAt (M m31 s) = []
+stepAt (M m32 s) = Send s ∷ []
+stepAt (M m4 s) = Enter s ∷ []
+stepAt (M m5 s) = []
+stepAt (M m6 s) = Leave s ∷ []
+stepAt (M m71 s) = []
+stepAt (M m72 s) = Give s ∷ []
+stepAt (q1 s t) = TakeRequest s t ∷ []
+stepAt (r1 s u) = TakeAnswer s u ∷ []
+
+unfoldable pub stepsOf : List Label → List Step
+stepsOf [] = []
+stepsOf (l ∷ ls) = stepAt l ++ stepsOf ls
+
+-- ---- a table shows a state of the program, cell by cell
+-- the place and p: "the paper's p = N + 1 appears here as the next place with p = 1"
+abbrev pub inLoop : ℕ → Node → ℕ → ℕ → ℕ
+inLoop n a looping past = cond (leb (a .p) n) looping past
+
+abbrev pub placeAt : ℕ → Location → Node → ℕ
+placeAt n m1 a = IDLE
+placeAt n m2 a = IDLE
+placeAt n m31 a = inLoop n a SENDING WAITING
+placeAt n m32 a = SENDING
+placeAt n m4 a = WAITING
+placeAt n m5 a = HOLDING
+placeAt n m6 a = HOLDING
+placeAt n m71 a = inLoop n a GIVING IDLE
+placeAt n m72 a = GIVING
+
+abbrev pub nextAt : ℕ → Location → Node → ℕ
+nextAt n m1 a = 1
+nextAt n m2 a = 1
+nextAt n m31 a = inLoop n a (a .p) 1
+nextAt n m32 a = a .p
+nextAt n m4 a = 1
+nextAt n m5 a = 1
+nextAt n m6 a = 1
+nextAt n m71 a = inLoop n a (a .p) 1
+nextAt n m72 a = a .p
+
+abbrev pub headShown : ℕ → Node → Head
+headShown n a = record { place = placeAt n (a .at) a; own = a .osn; high = a .hsn; next = nextAt n (a .at) a; due = a .c }
+
+-- "Its wires are queues without bound; ours have one slot each"; "0 means an empty wire"
+abbrev pub requestQueue : ℕ → List ℕ
+requestQueue request = cond (eqb request 0) [] (request ∷ [])
+
+abbrev pub answerQueue : Bool → List ℕ
+answerQueue answer = cond answer (1 ∷ []) []
+
+-- s is a station: 1 to n
+pub record Numbered (n s : ℕ) : Type 0 where
+  pub low : 1 ≤ s
+  pub high : s ≤ n
+
+-- by its form, the table holds nothing else
+pub record Shows (n : ℕ) (t : List Station) (σ : State) : Type 0 where
+  pub form : wellFormed n t ≡ true
+  pub heads : (s : ℕ) → Numbered n s → headIn t (s - 1) ≡ headShown n (σ .node s)
+  pub requests : (s u : ℕ) → Numbered n s → Numbered n u → σ .chq u s ≡ requestQueue (cellsIn t (s - 1) (u - 1) .request)
+  pub answers : (s u : ℕ) → Numbered n s → Numbered n u → σ .chp u s ≡ answerQueue (cellsIn t (s - 1) (u - 1) .answer)
+  pub marks : (s u : ℕ) → Numbered n s → Numbered n u → σ .node s .rd u ≡ cellsIn t (s - 1) (u - 1) .mark
+
+-- ---- demand 2
+-- "and a number is left"
+abbrev pub NumberLeft : State → Step → Type 0
+NumberLeft σ (Ask s) = σ .node s .hsn < LAST_NUMBER
+NumberLeft σ (Send s) = Unit {0}
+NumberLeft σ (Enter s) = Unit {0}
+NumberLeft σ (Leave s) = Unit {0}
+NumberLeft σ (Give s) = Unit {0}
+NumberLeft σ (TakeRequest s t) = Unit {0}
+NumberLeft σ (TakeAnswer s t) = Unit {0}
+
+-- no m2 of a run is taken at hsn 65,535 or above
+unfoldable pub NumbersLeft : ℕ → State → List Label → Type 0
+NumbersLeft n σ [] = Unit {0}
+NumbersLeft n σ (l ∷ ls) = AllLeft σ (stepAt l) × NumbersLeft n (does n σ l) ls
+  where
+    AllLeft : State → List Step → Type 0
+    AllLeft σ [] = Unit {0}
+    AllLeft σ (x ∷ xs) = NumberLeft σ x × AllLeft σ xs
+
+-- the program can take the step x in the state σ, and a number is left
+pub record Takes (n : ℕ) (σ : State) (x : Step) : Type 0 where
+  pub next : State
+  pub run : Run n σ (word x) next
+  pub number : NumberLeft σ x
+
+-- the table t shows the state that the transitions ls lead to from the start
+pub record ShowsRun (n : ℕ) (ls : List Label) (t : List Station) : Type 0 where
+  pub state : State
+  pub run : Run n initial ls state
+  pub shows : Shows n t state
+
+pub record Count (n : ℕ) : Type 0 where
+  pub low : 2 ≤ n
+  pub high : n ≤ 32
+
+pub record Demand2 (E : Engine) : Type 0 where
+  -- "the state afterwards is that program's state": the table reached shows what the program reaches by just the accepted steps
+  pub follows : (n : ℕ) → Count n → (xs : List Step) → ShowsRun n (words (acceptedOf E n opened xs)) (reached E n xs)
+  -- "A step is accepted exactly when that program can take it and a number is left"
+  pub accepted-takes : (n : ℕ) → Count n → (xs : List Step) (σ : State) → Run n initial (words (acceptedOf E n opened xs)) σ → (x : Step)
+      → E .answer n (reached E n xs) x ≡ ACCEPTED → Takes n σ x
+  pub takes-accepted : (n : ℕ) → Count n → (xs : List Step) (σ : State) → Run n initial (words (acceptedOf E n opened xs)) σ → (x : Step)
+      → Takes n σ x → E .answer n (reached E n xs) x ≡ ACCEPTED
+  pub lands : (n : ℕ) → Count n → (xs : List Step) (σ : State) → Run n initial (words (acceptedOf E n opened xs)) σ → (x : Step)
+      → E .answer n (reached E n xs) x ≡ ACCEPTED → (τ : State) → Run n σ (word x) τ → Shows n (E .after n (reached E n xs) x) τ
+  -- every run of the program, in any interleaving, that never asks beyond 65,535 is matched by accepted steps
+  pub matched : (n : ℕ) → Count n → (ls : List Label) (σ : State) → Run n initial ls σ → NumbersLeft n initial ls
+      → (acceptedOf E n opened (stepsOf ls) ≡ stepsOf ls) × Shows n (reached E n (stepsOf ls)) σ
+  -- "Its wires are queues without bound; ours have one slot each, and that this is enough .. is part of demand 2"
+  pub never-2-or-8 : (n : ℕ) → Count n → (xs : List Step) (x : Step)
+      → (E .answer n (reached E n xs) x ≢ NOT_WELL_FORMED) × (E .answer n (reached E n xs) x ≢ AT_ODDS)
+  pub one-slot : (n : ℕ) → Count n → (ls : List Label) (σ : State) → Run n initial ls σ → (s t : ℕ) → Numbered n s → Numbered n t
+      → (length (σ .chq s t) ≤ 1) × (length (σ .chp s t) ≤ 1)
+
+-- ---- demand 3
+abbrev pub bit : Bool → ℕ
+bit true = 1
+bit false = 0
+
+abbrev pub enters : ℕ → Step → Bool
+enters y (Ask s) = false
+enters y (Send s) = false
+enters y (Enter s) = eqb s y
+enters y (Leave s) = false
+enters y (Give s) = false
+enters y (TakeRequest s t) = false
+enters y (TakeAnswer s t) = false
+
+-- how often Enter y is accepted
+unfoldable pub entries : Engine → ℕ → ℕ → List Station → List Step → ℕ
+entries E n y t [] = 0
+entries E n y t (x ∷ xs) = bit (accepts E n t x && enters y x) + entries E n y (E .after n t x) xs
+
+-- the request of i under way to j, j's mark for i and the answer of j under way to i, counted
+abbrev pub underWay : List Station → ℕ → ℕ → ℕ
+underWay t i j =
+    bit (not (eqb (cellsIn t (j - 1) (i - 1) .request) 0)) + bit (cellsIn t (j - 1) (i - 1) .mark) + bit (cellsIn t (i - 1) (j - 1) .answer)
+
+pub record Demand3 (E : Engine) : Type 0 where
+  -- "at most one station holds the turn"
+  pub one-holder : (n : ℕ) → Count n → (xs : List Step) (i j : ℕ) → Numbered n i → Numbered n j
+      → headIn (reached E n xs) (i - 1) .place ≡ HOLDING → headIn (reached E n xs) (j - 1) .place ≡ HOLDING → i ≡ j
+  -- "the first's request under way, its mark at the second and the second's answer under way come to one at most"
+  pub one-errand : (n : ℕ) → Count n → (xs : List Step) (i j : ℕ) → Numbered n i → Numbered n j → underWay (reached E n xs) i j ≤ 1
+  -- "Once Y has taken in Z's request of a round, Y enters at most once before Z enters in that round"
+  pub one-entry : (n : ℕ) → Count n → (xs : List Step) (y z : ℕ) → E .answer n (reached E n xs) (TakeRequest y z) ≡ ACCEPTED → (ys : List Step)
+      → entries E n z (E .after n (reached E n xs) (TakeRequest y z)) ys ≡ 0
+      → entries E n y (E .after n (reached E n xs) (TakeRequest y z)) ys ≤ 1
