@@ -1,0 +1,63 @@
+-- What a line of the bench's input means, and how a byte is written: 01, "Frames and the bench program".
+use Prim.Native.Nat.{ℕ, _+_, _-_, _*_, _/_, _%_}
+use mathlib.Core.Bool.{Bool, cond}
+use mathlib.Core.List.{List}
+use lib.Dec.{eqb, leb, ltb}
+use lib.ListN.{length, getD}
+use Rattle.station.specs.declared.Step.{Step}
+use Rattle.station.specs.declared.Step.the-variants.{Ask, Send, Enter, Leave, Give, TakeRequest, TakeAnswer}
+use Rattle.frames.specs.declared.Byte.{Byte}
+use Rattle.frames.specs.declared.Byte.the-variants as byte
+use Rattle.frames.specs.declared.Frame.{Frame}
+use Rattle.frames.specs.declared.Frame.the-variants as frame
+use Rattle.frames.specs.declared.Pair.{Pair}
+
+-- "six characters from 0-9 and A-F": the value of such a character (0 is character 48, A is 65), and 16 of any other
+unfoldable pub digitOf : ℕ → ℕ
+digitOf c = cond (ltb c 48) 16 (cond (leb c 57) (c - 48) (cond (ltb c 65) 16 (cond (leb c 70) (c - 65 + 10) 16)))
+
+-- a byte from its two characters, the high one first
+unfoldable pub byteOf : ℕ → ℕ → Byte
+byteOf high low =
+    cond (ltb (digitOf high) 16) (cond (ltb (digitOf low) 16) (byte.Value (digitOf high * 16 + digitOf low)) byte.Bad) byte.Bad
+
+-- "eight hexadecimal digits (the same characters)": the character of a number's last digit, and the two of a byte
+unfoldable pub hexOf : ℕ → ℕ
+hexOf value = cond (ltb (value % 16) 10) (value % 16 + 48) (value % 16 + 65 - 10)
+
+unfoldable pub pairOf : ℕ → Pair
+pairOf value = record { high = hexOf (value / 16); low = hexOf value }
+
+-- "The first frame has kind F0, the count as station, other 00. Later frames have kind 00 to 06; other is 00 for kinds 00 to 04"
+unfoldable pub meaningOf : ℕ → ℕ → ℕ → Frame
+meaningOf kind s t =
+    cond (eqb kind 5) (frame.Move (TakeRequest s t))
+    (cond (eqb kind 6) (frame.Move (TakeAnswer s t))
+    (cond (eqb t 0)
+    (cond (eqb kind 0) (frame.Move (Ask s))
+    (cond (eqb kind 1) (frame.Move (Send s))
+    (cond (eqb kind 2) (frame.Move (Enter s))
+    (cond (eqb kind 3) (frame.Move (Leave s))
+    (cond (eqb kind 4) (frame.Move (Give s))
+    (cond (eqb kind 240) (frame.Open s)
+    frame.Bad))))))
+    frame.Bad))
+
+-- "The three bytes are kind, station, other"
+unfoldable pub joined : Byte → Byte → Byte → Frame
+joined byte.Bad b c = frame.Bad
+joined (byte.Value k) byte.Bad c = frame.Bad
+joined (byte.Value k) (byte.Value s) byte.Bad = frame.Bad
+joined (byte.Value k) (byte.Value s) (byte.Value t) = meaningOf k s t
+
+-- "one frame a line: six characters .., then a line feed, the last line too": the frame whose line starts at an index
+unfoldable pub frameAt : List ℕ → ℕ → Frame
+frameAt s at =
+    cond (ltb (length s - at) 7)
+    frame.Bad
+    (cond (eqb (getD s (at + 6) 0) 10)
+    (joined
+    (byteOf (getD s at 0) (getD s (at + 1) 0))
+    (byteOf (getD s (at + 2) 0) (getD s (at + 3) 0))
+    (byteOf (getD s (at + 4) 0) (getD s (at + 5) 0)))
+    frame.Bad)
