@@ -1,0 +1,23 @@
+-- Proof of `go_onward`: a peer further, or past the last one.
+use borrow.Author.Tests.{lt-ltb, le-ltb}
+use Rattle.station.specs.Rules.{onward}
+use borrow.Author.Needs.{needs}
+use Rattle.station.proofs.go_onward.Statement.{statement}
+use Rattle.station.proofs.go_onward.Tie as tie
+
+cast-if1 : tie.Need-cast-if1
+cast-if1 c = search needs
+
+add-t6 : tie.Need-add-t6
+add-t6 c = search needs
+
+returns : tie.Need-returns
+unfolding onward
+returns c = simp (lt-ltb _ _ (c .before .if1 .taken))
+
+returns-2 : tie.Need-returns-2
+unfolding onward
+returns-2 c = simp (le-ltb _ _ (c .if1 .left))
+
+pub go-onward-spec : {M : Type 1} → statement M
+go-onward-spec = tie.close (tie.spec cast-if1 add-t6 returns returns-2)

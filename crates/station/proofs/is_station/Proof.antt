@@ -1,0 +1,16 @@
+-- Proof of `is_station`: 0 is no station, and no other is below 1.
+use Rattle.station.specs.Rules.{isStation}
+use Rattle.station.proofs.Laws.{zero-leb, nonzero-leb}
+use Rattle.station.proofs.is_station.Statement.{statement}
+use Rattle.station.proofs.is_station.Tie as tie
+
+returns : tie.Need-returns
+unfolding isStation
+returns c = simp (zero-leb _ (c .if1 .taken))
+
+returns-2 : tie.Need-returns-2
+unfolding isStation
+returns-2 c = simp (nonzero-leb _ (c .if1 .left))
+
+pub is-station-spec : {M : Type 1} → statement M
+is-station-spec = tie.close (tie.spec returns returns-2)
