@@ -170,7 +170,7 @@ pub fn index_of(s: usize) -> usize
     s - 1
 }
 
-pub fn is_asking(place: u8) -> bool
+fn is_asking(place: u8) -> bool
     ensures { λ r. ⌜ r ≡ isAsking place ⌝ }
 {
     if place == IDLE {

@@ -1,0 +1,45 @@
+-- Every public function's promise fixes its outcome: most promises are an equation, and two things equal to a third are equal.
+use mathlib.Core.Path.{_≡_, sym, _∙_}
+use mathlib.Core.List.{List}
+use Prim.Native.Nat.{ℕ}
+use Rattle.session.specs.Session.{Ran}
+use Rattle.demands.specs.OneOutcome.{Fixes, OneOutcome}
+
+equation : {A : Type 0} (d : A) → Fixes {A = A} (λ r. r ≡ d)
+equation d a b p q = p ∙ sym q
+
+-- a result, and what is left of what was lent
+two-equations : {A B : Type 0} (d : A) (e : B) → Fixes {A = A × B} (λ o. (o .0 ≡ d) × (o .1 ≡ e))
+two-equations d e a b p q = λ i. (equation d (a .0) (b .0) (p .0) (q .0) i, equation e (a .1) (b .1) (p .1) (q .1) i)
+
+ran : (input old : List ℕ) → Fixes {A = ℕ × List ℕ} (λ o. Ran input old (o .1) (o .0))
+ran input old a b p q =
+    let counts : a .0 ≡ b .0 = equation _ (a .0) (b .0) (p .count) (q .count) in
+    let bytes : a .1 ≡ b .1 = p .bytes ∙ rw counts (sym (q .bytes)) in
+    λ i. (counts i, bytes i)
+
+pub one-outcome : OneOutcome
+one-outcome = record {
+  count-ok = λ n. equation _;
+  is-station = λ n s. equation _;
+  stations-ok = λ n x. equation _;
+  named-by = λ x. equation _;
+  peer-of = λ x next. equation _;
+  index-of = λ s a b p q. equation _ a b (p .0) (q .0);
+  act = λ n x head mine theirs. equation _;
+  new-station = equation _;
+  record-ok = λ n s r. equation _;
+  open-table = λ n t. two-equations _ _;
+  well-formed = λ n t. equation _;
+  step = λ n t x. two-equations _ _;
+  holder-of = λ t. equation _;
+  head-of = λ t s. equation _;
+  byte-of = λ high low. equation _;
+  pair-of = λ byte. equation _;
+  meaning-of = λ kind station other. equation _;
+  frame-at = λ input at. equation _;
+  opened-table = λ n. equation _;
+  turn = λ t n x. equation _;
+  room-for = λ len. equation _;
+  run = ran;
+}
