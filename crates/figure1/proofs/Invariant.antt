@@ -1,0 +1,142 @@
+-- The invariant: the paper's assertions together, as facts about numbers, and of each pair of nodes with what is under way between the two.
+use mathlib.Core.Path.{_≡_, refl, sym, ap, _∙_}
+use mathlib.Core.Logic.{_≢_}
+use mathlib.Core.Bool.{Bool, true, false, cond, _||_}
+use mathlib.Core.List.{List}
+use Prim.Native.Nat.{ℕ, _+_, _-_, _≤_, _<_, min}
+use native.Mathlib.Omega.{arith}
+use lib.ListN.{length}
+use Rattle.figure1.specs.Figure1.{Location, m1, m2, m4, Node, State, first}
+use Rattle.figure1.proofs.Claims.{bit, In, sum, is, sending, asking, looping, weight}
+
+-- what is under way between an asker i and an answerer j: chq[i, j], rd[j, i] and chp[j, i]
+pub record Errand : Type 0 where
+  pub chq : List ℕ
+  pub rd : Bool
+  pub chp : List ℕ
+
+abbrev pub way : State → ℕ → ℕ → Errand
+way σ i j = record { chq = σ .chq i j; rd = σ .node j .rd i; chp = σ .chp j i }
+
+-- `load (way σ i j)` is `weight σ i j`
+abbrev pub load : Errand → ℕ
+load w = length (w .chq) + bit (w .rd) + length (w .chp)
+
+-- the errands of node i
+abbrev pub total : ℕ → State → ℕ → ℕ
+total N σ i = sum N (λ k. weight σ i k)
+
+-- 1 where a > b, and 0 elsewhere
+abbrev pub past : ℕ → ℕ → ℕ
+past a b = min 1 (a - b)
+
+-- of two different nodes, (m, i) ≺ (n, j)
+abbrev pub Before : ℕ → ℕ → ℕ → ℕ → Type 0
+Before m i n j = m + past i j ≤ n
+
+-- the requests of a node have gone out to the nodes below this
+abbrev pub reach : ℕ → Location → ℕ → ℕ
+reach N l p = cond (sending l) p (cond (asking l) (N + 1) 0)
+
+abbrev pub far : ℕ → Node → ℕ
+far N a = reach N (a .at) (a .p)
+
+-- the nodes that node i has yet to send to
+abbrev pub left : ℕ → ℕ → Location → ℕ → ℕ
+left N i l p = cond (sending l) ((N + past p i) - p) 0
+
+-- the most replies that can be due
+abbrev pub most : ℕ → Location → ℕ
+most N l = cond (sending l || is l m4) (N - 1) 0
+
+-- a node has no mark for the nodes below this
+abbrev pub floor : ℕ → Location → ℕ → ℕ
+floor N l p = cond (asking l) 0 (cond (is l m1 || is l m2) (N + 1) p)
+
+-- of node i, with T the weight of its errands
+pub record Own (N i : ℕ) (a : Node) (T : ℕ) : Type 0 where
+  pub p-low : 1 ≤ a .p
+  pub p-high : a .p + bit (looping (a .at)) ≤ N + 1
+  pub rcs-is : bit (a .rcs) ≡ bit (asking (a .at))
+  pub osn-low : bit (a .rcs) ≤ a .osn
+  pub c-high : a .c ≤ most N (a .at)
+  pub c-is : a .c ≡ T + left N i (a .at) (a .p)
+
+-- of an asker i and an answerer j
+pub record Pair (N i j : ℕ) (a b : Node) (w : Errand) : Type 0 where
+  pub chain : load w ≤ past (far N a) j
+  pub value : 0 < length (w .chq) → first (w .chq) ≡ a .osn
+  pub seen : j < far N a → length (w .chq) ≡ 0 → a .osn ≤ b .hsn
+  pub allowed : j < far N a → length (w .chq) ≡ 0 → bit (w .rd) ≡ 0 → bit (b .rcs) ≡ 1 → Before (a .osn) i (b .osn) j
+  pub behind : bit (w .rd) ≡ 1 → Before (b .osn) j (a .osn) i
+  pub kept : bit (w .rd) ≡ 1 → floor N (b .at) (b .p) ≤ i
+
+pub record Inv (N : ℕ) (σ : State) : Type 0 where
+  pub own : (i : ℕ) → In N i → Own N i (σ .node i) (total N σ i)
+  pub pair : (i j : ℕ) → In N i → In N j → i ≢ j → Pair N i j (σ .node i) (σ .node j) (way σ i j)
+  pub self : (i : ℕ) → In N i → weight σ i i ≡ 0
+
+-- inside either loop p is a node
+pub peer : {N i T : ℕ} {a : Node} → Own N i a T → bit (looping (a .at)) ≡ 1 → In N (a .p)
+peer o e = omega (arith, o)
+
+pub bit-same : (a b : Bool) → bit a ≡ bit b → a ≡ b
+bit-same true true e = refl
+bit-same true false e = absurd (omega arith)
+bit-same false true e = absurd (omega arith)
+bit-same false false e = refl
+
+-- ---- what a location says of its node: to the others, and of its own count
+pub record Outside (N : ℕ) (a : Node) (l : Location) : Type 0 where
+  pub far-at : far N a ≡ reach N l (a .p)
+  pub asking-at : bit (asking (a .at)) ≡ bit (asking l)
+  pub floor-at : floor N (a .at) (a .p) ≡ floor N l (a .p)
+
+pub outside : (N : ℕ) (a : Node) (l : Location) → a .at ≡ l → Outside N a l
+outside N a l e = record {
+  far-at = ap (λ (x : Location). reach N x (a .p)) e;
+  asking-at = ap (λ (x : Location). bit (asking x)) e;
+  floor-at = ap (λ (x : Location). floor N x (a .p)) e;
+}
+
+pub record Within (N i : ℕ) (a : Node) (l : Location) : Type 0 where
+  pub looping-at : bit (looping (a .at)) ≡ bit (looping l)
+  pub most-at : most N (a .at) ≡ most N l
+  pub left-at : left N i (a .at) (a .p) ≡ left N i l (a .p)
+
+pub within : (N i : ℕ) (a : Node) (l : Location) → a .at ≡ l → Within N i a l
+within N i a l e = record {
+  looping-at = ap (λ (x : Location). bit (looping x)) e;
+  most-at = ap (most N) e;
+  left-at = ap (λ (x : Location). left N i x (a .p)) e;
+}
+
+-- ---- a pair whose errand stays
+-- where the asker changes
+pub keep-asker : {N i j : ℕ} {a a′ b : Node} {w : Errand} → Pair N i j a b w → past (far N a′) j ≡ past (far N a) j → a′ .osn ≡ a .osn
+    → Pair N i j a′ b w
+keep-asker r f o = record {
+  chain = omega (arith, r .chain);
+  value = λ u. r .value u ∙ sym o;
+  seen = λ u v. omega (arith, r .seen (omega arith) v);
+  allowed = λ u v m c. omega (arith, r .allowed (omega arith) v m c);
+  behind = λ m. omega (arith, r .behind m);
+  kept = r .kept;
+}
+
+-- where the asker has nothing under way
+pub quiet : {N i j : ℕ} {a b : Node} {w : Errand} → far N a ≤ j → load w ≡ 0 → Pair N i j a b w
+quiet f z = omega arith
+
+-- where the answerer changes
+pub keep-answerer : {N i j : ℕ} {a b b′ : Node} {w : Errand} → Pair N i j a b w → b .hsn ≤ b′ .hsn
+    → (a .osn ≤ b .hsn → (bit (b .rcs) ≡ 1 → Before (a .osn) i (b .osn) j) → bit (b′ .rcs) ≡ 1 → Before (a .osn) i (b′ .osn) j)
+    → (floor N (b .at) (b .p) ≤ i → (b′ .osn ≡ b .osn) × (floor N (b′ .at) (b′ .p) ≤ i)) → Pair N i j a b′ w
+keep-answerer r h f g = record {
+  chain = r .chain;
+  value = r .value;
+  seen = λ u v. omega (arith, r .seen u v);
+  allowed = λ u v m c. f (r .seen u v) (r .allowed u v m) c;
+  behind = λ m. omega (arith, r .behind m, g (r .kept m) .0);
+  kept = λ m. g (r .kept m) .1;
+}

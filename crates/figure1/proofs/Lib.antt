@@ -1,0 +1,11 @@
+pub mod Claims
+pub mod Sums
+pub mod Invariant
+pub mod Frame
+pub mod Statements
+pub mod Takes
+pub mod Reached
+pub mod Theorems
+pub mod Slots
+pub mod Runs
+pub mod Overtaking
