@@ -16,7 +16,7 @@ use Rattle.frames.specs.declared.Pair.{Pair}
 use Rattle.frames.specs.declared.Frame.{Frame}
 use Rattle.frames.specs.Frames.{byteOf, pairOf, meaningOf, frameAt}
 use Rattle.session.specs.declared.Opened.{Opened}
-use Rattle.session.specs.declared.Turn.{Turn}
+use Rattle.session.specs.declared.Turned.{Turned}
 use Rattle.session.specs.Session.{openedFor, turnOf, roomFor, Ran}
 
 -- 01, "Contracts that admit one outcome": "any two results allowed by it are equal"
@@ -48,6 +48,6 @@ pub record OneOutcome : Type 0 where
   pub frame-at : (input : List ℕ) (at : ℕ) → Fixes {A = Frame} (λ r. r ≡ frameAt input at)
   -- session; of `run` the outcome is the count and the whole output buffer
   pub opened-table : (n : ℕ) → Fixes {A = Opened} (λ r. r ≡ openedFor n)
-  pub turn : (t : List Station) (n : ℕ) (x : Step) → Fixes {A = Turn} (λ r. r ≡ turnOf t n x)
+  pub turn : (t : List Station) (n : ℕ) (x : Step) → Fixes {A = Turned} (λ r. r ≡ turnOf t n x)
   pub room-for : (len : ℕ) → Fixes {A = ℕ} (λ r. r ≡ roomFor len)
   pub run : (input old : List ℕ) → Fixes {A = ℕ × List ℕ} (λ o. Ran input old (o .1) (o .0))

@@ -14,7 +14,7 @@ use Rattle.frames.specs.declared.Frame.{Frame}
 use Rattle.frames.specs.declared.Frame.the-variants as frame
 use Rattle.frames.specs.Frames.{pairOf, frameAt}
 use Rattle.session.specs.declared.Opened.{Opened}
-use Rattle.session.specs.declared.Turn.{Turn}
+use Rattle.session.specs.declared.Turned.{Turned}
 
 -- 01, codes 9 and 10: "bad frame (program only)"; "input above 65,536 bytes (program only)"
 abbrev pub BAD_FRAME : ℕ
@@ -32,7 +32,7 @@ unfoldable pub openedFor : ℕ → Opened
 openedFor n = record { code = openAnswer n opened; table = opened }
 
 -- the table after a step, with its code, the head of the named station and the station in Holding
-unfoldable pub turnOf : List Station → ℕ → Step → Turn
+unfoldable pub turnOf : List Station → ℕ → Step → Turned
 turnOf t n x =
     record { code = answer n t x; head = headOf (after n t x) (namedBy x); holder = holder (after n t x); table = after n t x }
 
@@ -50,7 +50,7 @@ unfoldable pub shownOf : ℕ → ℕ → ℕ
 shownOf code value = cond (eqb code NO_SUCH_STATION) 0 value
 
 -- the line of a step
-unfoldable pub turnLine : Turn → List ℕ
+unfoldable pub turnLine : Turned → List ℕ
 turnLine r = lineOf (r .code) (shownOf (r .code) (r .head .place)) (shownOf (r .code) (r .head .due)) (r .holder)
 
 -- "one line 09000000 is written and the run stops"

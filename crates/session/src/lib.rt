@@ -31,7 +31,7 @@ pub struct Opened {
 }
 
 // A table by value after a step, and what a line says of the step.
-pub struct Turn {
+pub struct Turned {
     pub code: u8,
     pub head: Head,
     pub holder: usize,
@@ -51,14 +51,14 @@ pub fn open_table(n: usize) -> Opened
 }
 
 // One step of a table that comes by value and goes back by value: it is lent to `table::step`, and then read.
-pub fn turn(table: [Station; 32], n: usize, step: Step) -> Turn
+pub fn turn(table: [Station; 32], n: usize, step: Step) -> Turned
     ensures { λ r. ⌜ r ≡ turnOf table n step ⌝ }
 {
     let mut lent = table;
     let code = table::step(&mut lent, n, step);
     let head = table::head_of(&lent, station::named_by(step));
     let holder = table::holder_of(&lent);
-    Turn {
+    Turned {
         code: code,
         head: head,
         holder: holder,

@@ -1,25 +1,17 @@
--- Laws of the tests that the rules are written with, and of the scan over the cells of a record.
-use Prim.Native.Nat.{ℕ, suc, _+_, _≤_, _<_}
-use mathlib.Core.Bool.{Bool, true, false, _&&_, and-eq-true-iff}
+-- Laws of the count that the steps ask for, and of the scan over the cells of a record.
+use Prim.Native.Nat.{ℕ, _+_, _≤_, _<_}
+use mathlib.Core.Bool.{Bool, true, _&&_, and-eq-true-iff}
 use mathlib.Core.Path.{_≡_, refl, sym, _∙_}
-use mathlib.Core.List.{List, [], _∷_, map}
+use mathlib.Core.List.{List, map}
 use native.Mathlib.Numerals.{add-one}
-use native.Mathlib.Omega.{arith}
 use lib.Dec.{leb}
 use lib.ListN.{length, drop, getD, drop-of-length-le, length-map}
 use lib.Seq.{drop-cons}
-use borrow.Author.Tests.{le-leb, lt-leb, leb-true}
+use borrow.Author.Tests.{leb-true}
 use Rattle.station.specs.declared.Cells.{Cells}
 use Rattle.station.proofs.Cells.{the-field}
 use Rattle.station.specs.Rules.{countOk}
 use Rattle.station.specs.Form.{cellOk, cellsOk}
-
--- the rules ask for 1 or more where the source asks for 0
-pub zero-leb : (a : ℕ) → a ≡ 0 → leb 1 a ≡ false
-zero-leb a e = lt-leb 1 a (omega arith)
-
-pub nonzero-leb : (a : ℕ) → (a ≡ 0 → ⊥) → leb 1 a ≡ true
-nonzero-leb a h = le-leb 1 a (omega arith)
 
 -- what the steps ask of the count
 pub count-range : (n : ℕ) → countOk n ≡ true → (2 ≤ n) × (n ≤ 32)

@@ -1,1 +1,2 @@
+-- The laws that stand beside the functions' own proofs.
 pub mod Laws

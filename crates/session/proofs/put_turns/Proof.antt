@@ -1,0 +1,134 @@
+-- Proof of `put_turns`: the lines that are left, stored behind those that are written, always give the whole.
+use Prim.Native.Nat.{_-_}
+use mathlib.Core.Path.{refl, sym, _∙_}
+use native.Mathlib.Omega.{arith}
+use borrow.Author.Needs.{needs}
+use Rattle.session.specs.Session.{linesIn}
+use Rattle.session.proofs.Turns.{Going, holder-byte, turned-done, stopped, ended}
+use Rattle.session.proofs.put_turns.Statement.{statement}
+use Rattle.session.proofs.put_turns.Tie as tie
+use Rattle.session.proofs.put_turns.Reads as reads
+use Rattle.session.proofs.put_turns.Lts as lts
+use Rattle.frames.proofs.frame_at.Reads as frame-at-reads
+use Rattle.session.proofs.lines_in.Reads as lines-in-reads
+use Rattle.session.proofs.put_line.Reads as put-line-reads
+use Rattle.session.proofs.shown.Reads as shown-reads
+use Rattle.session.proofs.turn.Reads as turn-reads
+
+abbrev Inv-loop : tie.InvT-loop
+Inv-loop input n output₀ total table₀ k₀ output table k = Going input n table₀ output₀ total output table k
+
+abbrev μ-loop : tie.MeasureT-loop
+μ-loop input n output₀ total table₀ k₀ output table k = total - k
+
+lines-in-requires : tie.Need-lines-in-requires Inv-loop μ-loop
+lines-in-requires c κs = search needs
+
+loop-holds : tie.Need-loop-holds Inv-loop μ-loop
+unfolding linesIn
+loop-holds c = record { low = search needs; high = omega (arith, (c .before .before .before .pre)); size = refl; stations = search needs; count = refl; bytes = refl }
+
+mul-frame-at : tie.Need-mul-frame-at Inv-loop μ-loop
+mul-frame-at c = search needs
+
+frame-at-requires : tie.Need-frame-at-requires Inv-loop μ-loop
+frame-at-requires c κs = search needs
+
+enum-known-step : tie.Need-enum-known-step Inv-loop μ-loop
+enum-known-step c = search needs
+
+mul-put-line : tie.Need-mul-put-line Inv-loop μ-loop
+mul-put-line c = search needs
+
+put-line-requires : tie.Need-put-line-requires Inv-loop μ-loop
+put-line-requires c κs = search needs
+
+mul-result : tie.Need-mul-result Inv-loop μ-loop
+mul-result c = search needs
+
+add-result : tie.Need-add-result Inv-loop μ-loop
+add-result c = search needs
+
+same-length : tie.Need-same-length Inv-loop μ-loop
+same-length c = search needs
+
+returns : tie.Need-returns Inv-loop μ-loop
+returns c =
+    rw (c .before .before .put-line .ensures)
+    (stopped _ _ _ _ _ _ _ _ (c .before .before .before .before .before .before .before .loop .inv) (c .before .before .before .before .before .before .before .before .lines-in .ensures)
+    (omega (arith, (c .before .before .before .before .before .before .before .before .before .before .before .pre), (c .before .before .before .before .before .before .before .before .lines-in .ensures)))
+    (c .before .before .before .before .before .before .loop-test .taken)
+    (rw (c .before .before .before .before .before .frame-at .ensures) at (c .before .before .before .before .match .keys2)))
+
+turn-requires : tie.Need-turn-requires Inv-loop μ-loop
+turn-requires c κs = search needs
+
+shown-requires : tie.Need-shown-requires Inv-loop μ-loop
+shown-requires c κs = search needs
+
+shown-requires-2 : tie.Need-shown-requires-2 Inv-loop μ-loop
+shown-requires-2 c κs = search needs
+
+mul-put-line-2 : tie.Need-mul-put-line-2 Inv-loop μ-loop
+mul-put-line-2 c = search needs
+
+cast-put-line : tie.Need-cast-put-line Inv-loop μ-loop
+cast-put-line c = omega (arith, holder-byte _ _ _ _ ((c .before .before .before .before .before .before .before .before .before .before .before .loop .inv .stations)) (c .before .before .before .before .before .turn .ensures))
+
+put-line-requires-2 : tie.Need-put-line-requires-2 Inv-loop μ-loop
+put-line-requires-2 c κs = search needs
+
+add-k : tie.Need-add-k Inv-loop μ-loop
+add-k c = search needs
+
+loop-less : tie.Need-loop-less Inv-loop μ-loop
+loop-less c = search needs
+
+loop-again : tie.Need-loop-again Inv-loop μ-loop
+loop-again c =
+    turned-done _ _ _ _ _ _ _ _ (c .before .before .before .before .before .before .before .before .before .before .before .before .before .before .before .loop .inv) _ _ _ _ _ (c .before .before .before .before .before .before .before .before .before .before .before .before .before .before .loop-test .taken)
+    (sym (c .before .before .before .before .before .before .before .before .before .before .before .before .before .frame-at .ensures) ∙ (c .before .before .before .before .before .before .before .before .before .before .before .step .given .1))
+    (c .before .before .before .before .before .before .before .before .before .turn .ensures)
+    (c .before .before .before .before .before .before .before .shown .ensures)
+    (c .before .before .before .before .before .before .shown2 .ensures)
+    (c .before .before .before .put-line2 .ensures)
+
+mul-result-2 : tie.Need-mul-result-2 Inv-loop μ-loop
+mul-result-2 c = search needs
+
+same-length-2 : tie.Need-same-length-2 Inv-loop μ-loop
+same-length-2 c = search needs
+
+returns-2 : tie.Need-returns-2 Inv-loop μ-loop
+returns-2 c =
+    ended _ _ _ _ _ _ _ _ (c .before .loop .inv) (c .before .before .lines-in .ensures) (omega (arith, (c .before .before .before .before .before .pre), (c .before .before .lines-in .ensures))) (c .loop-test .left)
+
+pub put-turns-spec : {M : Type 1} → statement M
+put-turns-spec =
+    tie.close
+    (tie.spec
+    Inv-loop
+    μ-loop
+    lines-in-requires
+    loop-holds
+    mul-frame-at
+    frame-at-requires
+    enum-known-step
+    mul-put-line
+    put-line-requires
+    mul-result
+    add-result
+    same-length
+    returns
+    turn-requires
+    shown-requires
+    shown-requires-2
+    mul-put-line-2
+    cast-put-line
+    put-line-requires-2
+    add-k
+    loop-less
+    loop-again
+    mul-result-2
+    same-length-2
+    returns-2)
