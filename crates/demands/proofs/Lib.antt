@@ -1,1 +1,23 @@
+-- The proofs of the statements in specs/, and what they share.
+pub mod Stations
+pub mod Queues
+pub mod Tables
+pub mod Mirrors
+pub mod Form
+pub mod Rows
+pub mod Works
+pub mod Statements
+pub mod Takes
+pub mod Matching
+pub mod Settled
+pub mod Verdicts
+pub mod Demand2
+pub mod Lists
+pub mod Demand3
+pub mod Computed
+pub mod Cases
+pub mod Useless
+pub mod FirstSentence
+pub mod Rounds
+pub mod ShortRuns
 pub mod OneOutcome

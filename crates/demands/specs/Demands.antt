@@ -201,10 +201,14 @@ abbrev pub underWay : List Station → ℕ → ℕ → ℕ
 underWay t i j =
     bit (not (eqb (cellsIn t (j - 1) (i - 1) .request) 0)) + bit (cellsIn t (j - 1) (i - 1) .mark) + bit (cellsIn t (i - 1) (j - 1) .answer)
 
+-- "at most one station holds the turn"
+abbrev pub OneHolder : Engine → Type 0
+OneHolder E =
+    (n : ℕ) → Count n → (xs : List Step) (i j : ℕ) → Numbered n i → Numbered n j
+    → headIn (reached E n xs) (i - 1) .place ≡ HOLDING → headIn (reached E n xs) (j - 1) .place ≡ HOLDING → i ≡ j
+
 pub record Demand3 (E : Engine) : Type 0 where
-  -- "at most one station holds the turn"
-  pub one-holder : (n : ℕ) → Count n → (xs : List Step) (i j : ℕ) → Numbered n i → Numbered n j
-      → headIn (reached E n xs) (i - 1) .place ≡ HOLDING → headIn (reached E n xs) (j - 1) .place ≡ HOLDING → i ≡ j
+  pub one-holder : OneHolder E
   -- "the first's request under way, its mark at the second and the second's answer under way come to one at most"
   pub one-errand : (n : ℕ) → Count n → (xs : List Step) (i j : ℕ) → Numbered n i → Numbered n j → underWay (reached E n xs) i j ≤ 1
   -- "Once Y has taken in Z's request of a round, Y enters at most once before Z enters in that round"

@@ -1,0 +1,93 @@
+-- Lists of steps and of transitions: put end to end and taken apart, and the entries in them.
+use mathlib.Core.Path.{_≡_, refl, sym}
+use mathlib.Core.Bool.{Bool, true, false, cond, _&&_}
+use mathlib.Core.List.{List, [], _∷_, _++_, append-assoc}
+use Prim.Native.Nat.{ℕ, _+_}
+use native.Mathlib.Nat.{zero-add}
+use native.Mathlib.Omega.{arith}
+use lib.Dec.{eqb}
+use Rattle.station.specs.declared.Station.{Station}
+use Rattle.station.specs.declared.Step.{Step}
+use Rattle.station.specs.declared.Step.the-variants.{Ask, Send, Enter, Leave, Give, TakeRequest, TakeAnswer}
+use Rattle.station.specs.Names.{ACCEPTED}
+use Rattle.figure1.specs.Figure1.{State, Label, can, does, Run, stop, move}
+use Rattle.figure1.proofs.Claims as claims
+use Rattle.demands.specs.Demands.{Engine, accepts, tableAfter, acceptedOf, word, words, bit, enters, entries}
+
+words-append : (xs ys : List Step) → words (xs ++ ys) ≡ words xs ++ words ys
+unfolding words
+words-append [] ys = refl
+words-append (x ∷ xs) ys = rw (words-append xs ys, append-assoc)
+
+-- what a run does after its beginning
+pub run-after : {n : ℕ} {σ τ υ : State} {ls ks : List Label} → Run n σ ls τ → Run n σ (ls ++ ks) υ → Run n τ ks υ
+run-after stop Q = Q
+run-after (move e R) (move f Q) = run-after R Q
+
+pub begun : {n : ℕ} {σ τ : State} {l : Label} {ls : List Label} → Run n σ (l ∷ ls) τ → (can n σ l ≡ true) × Run n (does n σ l) ls τ
+begun (move e R) = (e, R)
+
+pub bit-same : (b : Bool) → bit b ≡ claims.bit b
+bit-same true = refl
+bit-same false = refl
+
+-- a step enters where its transitions do
+not-m4 : (b : Bool) → claims.bit (b && false) ≡ 0
+not-m4 true = refl
+not-m4 false = refl
+
+at-m4 : (b : Bool) → claims.bit (b && true) ≡ bit b
+at-m4 true = refl
+at-m4 false = refl
+
+word-entries : (y : ℕ) (x : Step) (ls : List Label) → claims.entries y (word x ++ ls) ≡ bit (enters y x) + claims.entries y ls
+unfolding claims.entries
+word-entries y (Ask s) ls = omega (arith, not-m4 (eqb s y))
+word-entries y (Send s) ls = omega (arith, not-m4 (eqb s y))
+word-entries y (Enter s) ls = omega (arith, at-m4 (eqb s y))
+word-entries y (Leave s) ls = omega (arith, not-m4 (eqb s y))
+word-entries y (Give s) ls = omega (arith, not-m4 (eqb s y))
+word-entries y (TakeRequest s t) ls = refl
+word-entries y (TakeAnswer s t) ls = refl
+
+-- a step that is kept or dropped: before what follows, and among the entries
+kept-append : (b : Bool) (x : Step) (us vs : List Step) → cond b (x ∷ us) us ++ vs ≡ cond b (x ∷ (us ++ vs)) (us ++ vs)
+kept-append true x us vs = refl
+kept-append false x us vs = refl
+
+kept-entries : (y : ℕ) (b : Bool) (x : Step) (us : List Step)
+    → claims.entries y (words (cond b (x ∷ us) us)) ≡ bit (b && enters y x) + claims.entries y (words us)
+unfolding words
+kept-entries y true x us = word-entries y x (words us)
+kept-entries y false x us = sym (zero-add _)
+
+module _ (E : Engine) (n : ℕ) where
+  pub after-append : (t : List Station) (xs ys : List Step) → tableAfter E n t (xs ++ ys) ≡ tableAfter E n (tableAfter E n t xs) ys
+  unfolding tableAfter
+  after-append t [] ys = refl
+  after-append t (x ∷ xs) ys = after-append (E .after n t x) xs ys
+
+  pub entries-append : (y : ℕ) (t : List Station) (xs ys : List Step)
+      → entries E n y t (xs ++ ys) ≡ entries E n y t xs + entries E n y (tableAfter E n t xs) ys
+  unfolding tableAfter entries
+  entries-append y t [] ys = sym (zero-add _)
+  entries-append y t (x ∷ xs) ys = omega (arith, entries-append y (E .after n t x) xs ys)
+
+  accepted-append : (t : List Station) (xs ys : List Step)
+      → acceptedOf E n t (xs ++ ys) ≡ acceptedOf E n t xs ++ acceptedOf E n (tableAfter E n t xs) ys
+  unfolding acceptedOf tableAfter
+  accepted-append t [] ys = refl
+  accepted-append t (x ∷ xs) ys =
+      rw (accepted-append (E .after n t x) xs ys) (sym (kept-append (accepts E n t x) x (acceptedOf E n (E .after n t x) xs) _))
+
+  -- a step accepted after others, in the program's transitions
+  pub accepted-next : (t : List Station) (xs : List Step) (x : Step) (ys : List Step) → E .answer n (tableAfter E n t xs) x ≡ ACCEPTED
+      → words (acceptedOf E n t (xs ++ (x ∷ ys)))
+      ≡ words (acceptedOf E n t xs) ++ (word x ++ words (acceptedOf E n (E .after n (tableAfter E n t xs) x) ys))
+  unfolding acceptedOf words
+  accepted-next t xs x ys h = rw (accepted-append t xs (x ∷ ys), words-append (acceptedOf E n t xs), h)
+
+  pub entries-words : (y : ℕ) (t : List Station) (xs : List Step) → entries E n y t xs ≡ claims.entries y (words (acceptedOf E n t xs))
+  unfolding entries acceptedOf words claims.entries
+  entries-words y t [] = refl
+  entries-words y t (x ∷ xs) = rw (entries-words y (E .after n t x) xs) (sym (kept-entries y (accepts E n t x) x _))
