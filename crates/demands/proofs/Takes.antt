@@ -48,7 +48,7 @@ module _ {n : ℕ} (C : Count n) {ls : List Label} {σ : State} (R : Run n initi
         (r .0, w ∙ r .1)
 
     taken : (q : List ℕ) → put₂ (σ .chq) u s q s u ≡ σ .chq s u
-    taken q = put₂-row (σ .chq) u s q s u apart
+    taken q = put₂-row (σ .chq) u s q s u other
 
     abbrev answering : State
     answering = record {
