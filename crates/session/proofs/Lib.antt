@@ -1,3 +1,5 @@
 pub mod Stores
 pub mod Turns
 pub mod Whole
+pub mod Lending
+pub mod ByValue

@@ -1,7 +1,8 @@
 -- A loop along the table, and the branches of a walk.
 --     Upto        how far the loop has come: an index up to the length, with what is known there. It is the loop's variant, in the order Nearer
 --     onward      the next index
---     FromHere    of a definition by the records in order: what it says of the records from index i on, with their numbers, it says of the table.        one-on, at-end      at the next index, and past the last record
+--     FromHere    at an index of a scan: what is said of the records from there on is what is said of all
+--     one-on, at-end      the same at the next index, and past the last record
 --     tests       a step of a walk: the test of a `while`, which goes on with the turn or leaves the loop
 --     passes      an `if` without `else`, which is entered or passed by
 use mathlib.Core.Path.{_≡_, sym, ap, _∙_}
@@ -44,13 +45,14 @@ module _ (m : ℕ) (Known : ℕ → Type 0) where
   pub nearer : (x : Upto m Known) (l : x .i < m) (k : Known (x .i + 1)) → Nearer (onward x l k) x
   nearer x l k = omega (arith, l)
 
--- def s rs is about the records rs, the first of which is station s's; of one record more it says `more`
-module _ {X R : Type 0} (def : ℕ → List X → R) (more : ℕ → X → R → R) (t : List X) (i : ℕ) where
+-- a definition by the records in order: def s rs is about the records rs, the first of them that of station s
+module _ {X R : Type 0} (def : ℕ → List X → R) (t : List X) (i : ℕ) where
   abbrev pub FromHere : Type 0
   FromHere = def (i + 1) (drop i t) ≡ def 1 t
 
-  pub one-on : ((s : ℕ) (r : X) (rs : List X) → def s (r ∷ rs) ≡ more s r (def (s + 1) rs)) → (d : X) → i < length t → FromHere → more (i + 1) (getD t i d) (def (i + 1 + 1) (drop (i + 1) t)) ≡ def 1 t
-  one-on cons d l here =
+  pub one-on : (more : ℕ → X → R → R) → ((s : ℕ) (r : X) (rs : List X) → def s (r ∷ rs) ≡ more s r (def (s + 1) rs)) → (d : X) → i < length t → FromHere
+      → more (i + 1) (getD t i d) (def (i + 1 + 1) (drop (i + 1) t)) ≡ def 1 t
+  one-on more cons d l here =
       ap (λ (k : ℕ). more (i + 1) (getD t i d) (def (i + 1 + 1) (drop k t))) (add-one i)
       ∙ sym (ap (def (i + 1)) (drop-cons t i d l) ∙ cons (i + 1) (getD t i d) (drop (suc i) t)) ∙ here
 

@@ -10,7 +10,7 @@ use Rattle.station.specs.declared.Station.{Station}
 use Rattle.station.specs.declared.Step.{Step}
 use Rattle.station.specs.Names.{STATIONS, ACCEPTED}
 use Rattle.station.specs.Rules.{countOk, outcome}
-use Rattle.table.specs.Table.{headIn, cellsIn, sized, recordsOk, wellFormed, seat, seatOf, peerSeat, outcomeIn, landed, firstRefusal, answer, after}
+use Rattle.table.specs.Table.{headIn, cellsIn, sized, wellFormed, seat, seatOf, peerSeat, outcomeIn, landed, firstRefusal, answer, after}
 use Rattle.table.proofs.Unchanged.{unchanged}
 
 form-asked : (form : Bool) (n : ℕ) (x : Step) → eqb (firstRefusal form n x) ACCEPTED ≡ true → form ≡ true
@@ -21,7 +21,7 @@ form-asked false n x e = absurd (false≢true e)
 form-length : (n : ℕ) (t : List Station) → wellFormed n t ≡ true → length t ≡ STATIONS
 unfolding wellFormed sized
 form-length n t e =
-    let size : sized (length t) n ≡ true = and-eq-true-iff (sized (length t) n) (recordsOk n 1 t) .0 e .0 in
+    let size : sized (length t) n ≡ true = and-eq-true-iff (sized (length t) n) _ .0 e .0 in
     eqb-true (length t) STATIONS (and-eq-true-iff (eqb (length t) STATIONS) (countOk n) .0 size .0)
 
 module _ (n : ℕ) (t : List Station) (x : Step) where
@@ -43,6 +43,10 @@ module _ (n : ℕ) (t : List Station) (x : Step) where
   unfolding answer
   answer-refused off = ap (λ (b : Bool). cond b (outcomeIn n t x .code) first) off
 
+  after-refused : eqb first ACCEPTED ≡ false → t ≡ after n t x
+  unfolding after
+  after-refused off = ap (λ (b : Bool). cond b done t) (sym (ap (λ (code : ℕ). eqb code ACCEPTED) (answer-refused off) ∙ off))
+
   -- stored or not, what such a step leaves is the table with its outcome
   by-code : eqb first ACCEPTED ≡ true → (b : Bool) → eqb (answer n t x) ACCEPTED ≡ b → done ≡ cond b done t
   by-code ok true e = refl
@@ -51,10 +55,6 @@ module _ (n : ℕ) (t : List Station) (x : Step) where
   after-passed : eqb first ACCEPTED ≡ true → done ≡ after n t x
   unfolding after
   after-passed ok = by-code ok (eqb (answer n t x) ACCEPTED) refl
-
-  after-refused : eqb first ACCEPTED ≡ false → t ≡ after n t x
-  unfolding after
-  after-refused off = ap (λ (b : Bool). cond b done t) (sym (ap (λ (code : ℕ). eqb code ACCEPTED) (answer-refused off) ∙ off))
 
   -- what a walk learns, in the words of the contract
   abbrev pub Acted : ℕ → List Station → ℕ → ℕ → Type 0

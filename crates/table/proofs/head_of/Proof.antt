@@ -109,9 +109,10 @@ module _ {M : Type 1} (𝓤 : URA M) (H : Heap 𝓤) (A : Atoms 𝓤) (W : Given
         qed W ((‵ (flft κ q) ⊛ ‵ ftrue) ∷ ‵ (owns (ShrSlice (named 0) κ Sn.the-row ∷ usize ∷ []) a at) ∷ []) ∵ enter ! (𝓣 .C) (𝓣 .Λ) code.function (table ∷ vint w64 s ∷ []) _ $
         alloc1 ! (λ l₀. alloc1 ! (λ l₁. alloc1 ! (λ l₂. alloc1 ! (λ l₃. alloc1 ! (λ l₄. alloc1 ! (λ l₅. alloc1 ! (λ l₆. alloc1 ! (λ l₇. alloc0 ! $ params1 ! $
         pass1 ! (init ! 12 refl (tt, (tt, (record { fits = room .0 }, tt)))) $ pass1 ! (init ! 10 refl (tt, record { fits = s< })) $ pass0 ! $
-        -- what the parameters own is taken apart: [the records; the token; the ghost value; _7; …], local k at 3 + 2 · (7 − k)
+        -- what the parameters own is taken apart: [the records; the token; the ghost value; the locals, the last one first], local k at 3 + 2 · (7 − k)
         move ! (17 ∷ 16 ∷ []) $ receives ! b o t $
         sets ! (of-opd ! (field-of ! 15 refl refl refl)) 7 refl (tt, record { fits = room .0 }) $
+        -- is_station(table.len(), s)
         calls-plain ! (fmOf 𝓤 H (W .laws) 𝓣) (is-station.signature .params) (is-station.signature .result) (is-station.ended .kept) (is-station.clauses 𝓤 H A mem run) finds (length t, (s, tt)) tt (vint w64 (length t) ∷ [], (vint w64 s ∷ [], tt))
         (uint-makes 𝓤 H A W w64, (uint-makes 𝓤 H A W w64, tt)) ((refl, room .0), ((refl, s<), tt)) (id⊢ 𝓤 (emp 𝓤)) (λ z. vbool z) bool-tells (λ z. z ≡ isStation (length t) s) (λ z _. id⊢ 𝓤 _)
         (and-then ! (local ! 8 refl) (and-then ! (local ! 14 refl) (no-more !))) (λ z e _.
@@ -122,11 +123,13 @@ module _ {M : Type 1} (𝓤 : URA M) (H : Heap 𝓤) (A : Atoms 𝓤) (W : Given
         let l : s - 1 < length t = omega (arith, found .0, found .1) in
         let index< : s - 1 < 2 ^ 64 = omega (arith, s<) in
         let offset< : (s - 1) * recordBytes < 2 ^ 64 = offset-fits t room (s - 1) l in
+        -- i = s - 1
         sets ! (bin ! (local ! 13 refl) (lit ! tt) (found .0)) 11 refl (tt, record { fits = index< }) $
+        -- table[i].head
         sets ! (times ! recordBytes tt (local ! 11 refl) offset<) 5 refl (tt, record { fits = offset< }) $
         sets ! (offset-to ! recordBytes (s - 1) (field-of ! 15 refl refl refl) (local ! 5 refl)) 3 refl (tt, tt) $
         looks ! b o t tt (λ q′. head-out ! q′ t (s - 1) b o l (λ is.
-        -- [the head at _3; the rest of the table; …]
+        -- [the head at i; the rest of the table; …]
         sets ! (of-opd ! (load ! (from ! (hop ! (look ! 5 refl) (fld ! refl (stop !)))) (look-raw ! 0 refl))) 19 refl (head-typed 𝓤 H A W (headIn t (s - 1)) is) $
         head-back ! q′ t (s - 1) b o is $ shuts-slice ! tt Sn.the-row q′ t b o $ move ! (1 ∷ 0 ∷ []) $
         returns-within ! Post refl (look ! 17 refl) $ forget ! 3 refl $ forget ! 5 refl $ forget ! 7 refl $ forget ! 9 refl $ forget ! 11 refl $ forget ! 13 refl $ forget ! 15 refl $ forget ! 17 refl $ leaves ! 3 refl $

@@ -62,19 +62,16 @@ stayed = (stay-none-slice (0 ∷ []) tt (plain (λ _. Sn.the-row)) yes, tt)
 abbrev holds : List Station → ℕ → Bool
 holds t i = eqb (headIn t i .place) HOLDING
 
-abbrev either : ℕ → Station → ℕ → ℕ
-either s r rest = cond (eqb (r .head .place) HOLDING) s rest
-
 abbrev Known : List Station → ℕ → Type 0
-Known t i = FromHere holderFrom either t i
+Known t i = FromHere holderFrom t i
 
 judged : (t : List Station) (i : ℕ) (z : Bool) → i < length t → Known t i → holds t i ≡ z → cond z (i + 1) (holderFrom (i + 1 + 1) (drop (i + 1) t)) ≡ holder t
 unfolding holderFrom
-judged t i z l here e = ap (λ (y : Bool). cond y (i + 1) (holderFrom (i + 1 + 1) (drop (i + 1) t))) (sym e) ∙ one-on holderFrom either t i (λ s r rs. refl) noStation l here
+judged t i z l here e = ap (λ (y : Bool). cond y (i + 1) (holderFrom (i + 1 + 1) (drop (i + 1) t))) (sym e) ∙ one-on holderFrom t i (λ s r rest. cond (eqb (r .head .place) HOLDING) s rest) (λ s r rs. refl) noStation l here
 
 none : (t : List Station) (i : ℕ) → length t ≤ i → Known t i → 0 ≡ holder t
 unfolding holderFrom
-none t i l here = at-end holderFrom either t i l here
+none t i l here = at-end holderFrom t i l here
 
 module _ {M : Type 1} (𝓤 : URA M) (H : Heap 𝓤) (A : Atoms 𝓤) (W : Given 𝓤 H A) (mem : Memory → SProp 𝓤) (run : Routine → Fun 𝓤) (κ : Lft) (q : Share) (b o : ℕ) (γ : GName) (t : List Station) (room : Room Sn.the-row (length t)) where
   abbrev a : RefT (List Station) × Unit {0}
@@ -105,7 +102,7 @@ module _ {M : Type 1} (𝓤 : URA M) (H : Heap 𝓤) (A : Atoms 𝓤) (W : Given
 
       -- the slice, and the locals: local k stands at 3 + 2 · (6 − k)
       abbrev Inv : Far → List (Item 𝓤)
-      Inv x = ‵ (Shown κ b o t) ∷ ‵ (flft κ q) ∷ ‵ (Value γ t) ∷ bare (tyInt w8) l₆ (bare tyPtr l₅ (bare tyBool l₄ (bare (tyInt w64) l₃ (full (tyInt w64) l₂ (vint w64 (x .i)) (full shownTy l₁ (table) (bare (tyInt w64) l₀ []))))))
+      Inv x = ‵ (Shown κ b o t) ∷ ‵ (flft κ q) ∷ ‵ (Value γ t) ∷ bare (tyInt w8) l₆ (bare tyPtr l₅ (bare tyBool l₄ (bare (tyInt w64) l₃ (full (tyInt w64) l₂ (vint w64 (x .i)) (full shownTy l₁ table (bare (tyInt w64) l₀ []))))))
 
       turn : (x : Far) → Sq W (Inv x) (runs (𝓣 .C) (𝓣 .Λ) E body.turn-1
           (anyQ (afterTurn 𝓤 H (Below 𝓤 H A (Nearer (length t) (Known t)) Inv x) (afterBlock 𝓤 H (afterSeq 𝓤 H (Wp 𝓤 H (𝓣 .C) (𝓣 .Λ) E body.t-3 (atReturn 𝓤 H E Post)) (atReturn 𝓤 H E Post))))))
@@ -118,10 +115,11 @@ module _ {M : Type 1} (𝓤 : URA M) (H : Heap 𝓤) (A : Atoms 𝓤) (W : Given
           let l : x .i < length t = ltb→lt (x .i) (length t) h in
           let offset< : x .i * recordBytes < 2 ^ 64 = offset-fits t room (x .i) l in
           let more< : x .i + 1 < 2 ^ 64 = next-fits t room (x .i) l in
+          -- table[i].head.place == HOLDING
           changes ! (times ! recordBytes tt (local ! 11 refl) offset<) 9 refl (tt, record { fits = offset< }) $
           sets ! (offset-to ! recordBytes (x .i) (field-of ! 13 refl refl refl) (local ! 9 refl)) 5 refl (tt, tt) $
           looks ! b o t tt (λ q′. head-out ! q′ t (x .i) b o l (λ is.
-          -- [the head at _2; the rest of the table; …]
+          -- [the head at i; the rest of the table; …]
           sets ! (of-opd ! (load ! (from ! (hop ! (look ! 7 refl) (fld ! refl (fld ! refl (stop !))))) (look-in ! 0 (sub ! 0 refl (whole !))))) 5 refl (tt, record { fits = LL.owed Hd.the-type Hd′.the-laws (headIn t (x .i)) _ is .0 .1 }) $
           head-back ! q′ t (x .i) b o is $ shuts-slice ! tt Sn.the-row q′ t b o $ move ! (1 ∷ 0 ∷ []) $
           changes ! (bin ! (local ! 3 refl) (lit ! tt) tt) 7 refl (tt, tt) $
@@ -145,7 +143,7 @@ module _ {M : Type 1} (𝓤 : URA M) (H : Heap 𝓤) (A : Atoms 𝓤) (W : Given
         alloc1 ! (λ l₀. alloc1 ! (λ l₁. alloc1 ! (λ l₂. alloc1 ! (λ l₃. alloc1 ! (λ l₄. alloc1 ! (λ l₅. alloc1 ! (λ l₆. alloc0 ! $ params1 ! $
         pass1 ! (init ! 10 refl (tt, (tt, (record { fits = room .0 }, tt)))) $ pass0 ! $
         sets ! (of-opd ! (lit ! tt)) 8 refl (tt, record { fits = lit< tt }) $
-        -- what the parameter owns is taken apart: [the records; the token; the ghost value; _6; …]
+        -- what the parameter owns is taken apart: [the records; the token; the ghost value; the locals, the last one first]
         move ! (15 ∷ 14 ∷ []) $ receives ! b o t $
         first ! $ blocks ! $ loops ! 𝓣 (Nearer (length t) (Known t)) (ends (length t) (Known t)) (Inv l₀ l₁ l₂ l₃ l₄ l₅ l₆) (turn l₀ l₁ l₂ l₃ l₄ l₅ l₆) (record { i = 0; within = omega arith; known = refl }))))))))
 

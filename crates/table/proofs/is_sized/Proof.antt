@@ -1,5 +1,4 @@
 -- Proof of `is_sized`: the length is looked at first, then the count.
-use mathlib.Core.Path.{sym, _∙_}
 use borrow.Author.Needs.{needs}
 use borrow.Author.Tests.{eq-eqb, ne-eqb}
 use Rattle.table.specs.Table.{sized}

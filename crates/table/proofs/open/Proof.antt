@@ -130,7 +130,7 @@ module _ {M : Type 1} (𝓤 : URA M) (H : Heap 𝓤) (A : Atoms 𝓤) (W : Given
   abbrev Post : Val → SProp 𝓤
   Post = walkOf 𝓤 H A f.ended stayed (f.clauses 𝓤 H A mem run) .post (((κ, tt), (q, tt), tt, a, at), tt)
 
-  -- the table's ghost value, and its borrow
+  -- the table's ghost value, and its borrow, once the table is `now`
   abbrev Seen : List Station → Fml
   Seen now = fobs γ (codedHoleys Sn.the-row .code (heres Sn.the-row now))
 
@@ -152,7 +152,7 @@ module _ {M : Type 1} (𝓤 : URA M) (H : Heap 𝓤) (A : Atoms 𝓤) (W : Given
       abbrev E : Env 𝓤 H
       E = (tyInt w8, l₀) ∷ (slice, l₁) ∷ (tyInt w64, l₂) ∷ (tyInt w8, l₃) ∷ (Sn′.mir, l₄) ∷ (tyInt w64, l₅) ∷ (tyInt w64, l₆) ∷ (tyBool, l₇) ∷ (tyInt w64, l₈) ∷ (tyBool, l₉) ∷ (tyPtr, l₁₀) ∷ []
 
-      -- local k stands at 3 + 2 · (10 − k)
+      -- after the `if`; local k stands at 3 + 2 · (10 − k)
       ending : (now : List Station) → length now ≡ length t → Owed n t code now
           → Sq W (‵ (Seen now) ∷ ‵ (Borrow now) ∷ ‵ (flft κ q) ∷ bare tyPtr l₁₀ (bare tyBool l₉ (bare (tyInt w64) l₈ (bare tyBool l₇ (bare (tyInt w64) l₆ (bare (tyInt w64) l₅ (bare Sn′.mir l₄ (full (tyInt w8) l₃ (vint w8 code) (bare (tyInt w64) l₂ (bare slice l₁ (bare (tyInt w8) l₀ []))))))))))) (runs (𝓣 .C) (𝓣 .Λ) E body.t-5 (atRet E Post))
       ending now long is =
@@ -167,7 +167,7 @@ module _ {M : Type 1} (𝓤 : URA M) (H : Heap 𝓤) (A : Atoms 𝓤) (W : Given
         -- the records, the open borrow with both halves of its ghost value, and the locals
         abbrev Inv : Far → List (Item 𝓤)
         Inv x = ‵ (row Sn.the-row fullShare (x .known .now) b o) ∷ ‵ (fobor κ q (Held Sn.the-row (length t) b o γ)) ∷ ‵ (Seen t) ∷ ‵ (fauth γ (codedHoleys Sn.the-row .code (heres Sn.the-row t)))
-            ∷ bare tyPtr l₁₀ (bare tyBool l₉ (bare (tyInt w64) l₈ (bare tyBool l₇ (bare (tyInt w64) l₆ (full (tyInt w64) l₅ (vint w64 (x .i)) (full Sn′.mir l₄ (recordVal s) (full (tyInt w8) l₃ (vint w8 code) (full (tyInt w64) l₂ (vint w64 n) (full slice l₁ (table) (bare (tyInt w8) l₀ []))))))))))
+            ∷ bare tyPtr l₁₀ (bare tyBool l₉ (bare (tyInt w64) l₈ (bare tyBool l₇ (bare (tyInt w64) l₆ (full (tyInt w64) l₅ (vint w64 (x .i)) (full Sn′.mir l₄ (recordVal s) (full (tyInt w8) l₃ (vint w8 code) (full (tyInt w64) l₂ (vint w64 n) (full slice l₁ table (bare (tyInt w8) l₀ []))))))))))
 
         abbrev Left : Out → SProp 𝓤
         Left = afterBlock 𝓤 H (afterSeq 𝓤 H (Wp 𝓤 H (𝓣 .C) (𝓣 .Λ) E body.t-5 (atReturn 𝓤 H E Post)) (atReturn 𝓤 H E Post))
@@ -184,13 +184,15 @@ module _ {M : Type 1} (𝓤 : URA M) (H : Heap 𝓤) (A : Atoms 𝓤) (W : Given
             let l : x .i < length t = ltb→lt (x .i) (length t) h in
             let offset< : x .i * recordBytes < 2 ^ 64 = offset-fits t room (x .i) l in
             let more< : x .i + 1 < 2 ^ 64 = next-fits t room (x .i) l in
+            -- table[i] = new
             changes ! (times ! recordBytes tt (local ! 14 refl) offset<) 8 refl (tt, record { fits = offset< }) $
             sets ! (offset-to ! recordBytes (x .i) (field-of ! 22 refl refl refl) (local ! 8 refl)) 4 refl (tt, tt) $
             elem-out ! Sn.the-row (Is Sn.the-row) (shows 𝓤 H A Sn.the-row) recordVals (LL.tells Sn.the-type Sn′.the-laws) fullShare (x .known .now) (x .i) noStation b o (subst (λ (m : ℕ). x .i < m) (sym (x .known .long)) l) (λ _.
-            -- [the record at _5; what it owns; the others; …]
+            -- [the record at i; what it owns; the others; …]
             assigns ! (of-opd ! (local ! 18 refl)) (from ! (hop ! (look ! 6 refl) (stop !))) (store-raw ! 0 refl (record-typed 𝓤 H A W s is)) $
             move ! (1 ∷ []) $ drop ! $ owned ! Sn.the-row (Is Sn.the-row) (LL.makes Sn.the-type Sn′.the-plain 𝓤 H A) s _ is $ move ! (1 ∷ 0 ∷ []) $
             elem-put ! Sn.the-row fullShare (x .known .now) (x .i) s (recordVals s) b o (subst (λ (m : ℕ). x .i < m) (sym (x .known .long)) l) $
+            -- i += 1
             assigns-last ! (bin ! (local ! 14 refl) (lit ! tt) (record { fits = more< })) (from ! (stop !)) (store ! 14 refl (tt, record { fits = more< })) $
             forget ! 4 refl $ forget ! 6 refl $ forget ! 8 refl $
             again ! (Nearer (length t) (Begun t s)) Inv x (onward (length t) (Begun t s) x l (one-more t s (x .i) l (x .known))) (nearer (length t) (Begun t s) x l (one-more t s (x .i) l (x .known)))))
@@ -204,9 +206,10 @@ module _ {M : Type 1} (𝓤 : URA M) (H : Heap 𝓤) (A : Atoms 𝓤) (W : Given
         qed W ((‵ (flft κ q) ⊛ ‵ ftrue) ∷ ‵ (owns (MutSlice (named 0) κ Sn.the-row ∷ usize ∷ []) a at) ∷ []) ∵ enter ! (𝓣 .C) (𝓣 .Λ) code.function (table ∷ vint w64 n ∷ []) _ $
         alloc1 ! (λ l₀. alloc1 ! (λ l₁. alloc1 ! (λ l₂. alloc1 ! (λ l₃. alloc1 ! (λ l₄. alloc1 ! (λ l₅. alloc1 ! (λ l₆. alloc1 ! (λ l₇. alloc1 ! (λ l₈. alloc1 ! (λ l₉. alloc1 ! (λ l₁₀. alloc0 ! $ params1 ! $
         pass1 ! (init ! 18 refl (tt, (tt, (record { fits = room .0 }, tt)))) $ pass1 ! (init ! 16 refl (tt, record { fits = n< })) $ pass0 ! $
-        -- what the parameters own is taken apart: [the ghost value; the borrow; the token; _10; …]
+        -- what the parameters own is taken apart: [the ghost value; the borrow; the token; the locals, the last one first]
         move ! (23 ∷ []) $ fsplit ! $ fsplit ! $ drop ! $ fsplit ! $ move ! (2 ∷ []) $ drop ! $ move ! (24 ∷ []) $ split ! $ move ! (1 ∷ []) $ drop ! $ move ! (1 ∷ 2 ∷ 0 ∷ []) $
         sets ! (of-opd ! (field-of ! 21 refl refl refl)) 11 refl (tt, record { fits = room .0 }) $
+        -- code = opening(table.len(), n)
         calls-plain ! (fmOf 𝓤 H (W .laws) 𝓣) (opening.signature .params) (opening.signature .result) (opening.ended .kept) (opening.clauses 𝓤 H A mem run) opens (length t, (n, tt)) tt (vint w64 (length t) ∷ [], (vint w64 n ∷ [], tt))
         (uint-makes 𝓤 H A W w64, (uint-makes 𝓤 H A W w64, tt)) ((refl, room .0), ((refl, n<), tt)) (id⊢ 𝓤 (emp 𝓤)) (λ r. vint w8 r) (uint-tells w8) (λ r. r ≡ openCode (length t) n) (λ r _. id⊢ 𝓤 _)
         (and-then ! (local ! 12 refl) (and-then ! (local ! 20 refl) (no-more !))) (λ r e is.
@@ -217,6 +220,7 @@ module _ {M : Type 1} (𝓤 : URA M) (H : Heap 𝓤) (A : Atoms 𝓤) (W : Given
         let d : eqb r ACCEPTED ≡ true = is-true (eqb r ACCEPTED) h in
         let wide : length t ≡ STATIONS = accepted-long (length t) n (ap (λ (c : ℕ). eqb c ACCEPTED) (sym e) ∙ d) in
         forget ! 9 refl $ forget ! 11 refl $
+        -- new = new_station()
         calls-plain ! (fmOf 𝓤 H (W .laws) 𝓣) (new-station.signature .params) (new-station.signature .result) (new-station.ended .kept) (new-station.clauses 𝓤 H A mem run) makes tt tt tt
         tt tt (id⊢ 𝓤 (emp 𝓤)) recordVal (LL.tells Sn.the-type Sn′.the-laws) (λ s. s ≡ newStation) (λ s _. id⊢ 𝓤 _) (no-more !) (λ s new is′.
         land ! (from ! (stop !)) (init ! 15 refl (record-typed 𝓤 H A W s is′)) $

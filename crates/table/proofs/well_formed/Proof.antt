@@ -66,19 +66,16 @@ abbrev stayed : Stays (f.ended .signature .params) (f.ended .kept)
 stayed = (stay-none-slice (0 ∷ []) tt (plain (λ _. Sn.the-row)) yes, (stay-none (λ _. usize) yes, tt))
 
 -- ---- the form of a table, record by record
-abbrev alike : ℕ → ℕ → Station → Bool → Bool
-alike n s r rest = recordOk n s r && rest
-
 abbrev Known : ℕ → List Station → ℕ → Type 0
-Known n t i = FromHere (recordsOk n) (alike n) t i
+Known n t i = FromHere (recordsOk n) t i
 
 judged : (n : ℕ) (t : List Station) (i : ℕ) (z : Bool) → i < length t → Known n t i → z ≡ recordOk n (i + 1) (getD t i noStation) → (z && recordsOk n (i + 1 + 1) (drop (i + 1) t)) ≡ recordsOk n 1 t
 unfolding recordsOk
-judged n t i z l here e = ap (λ (y : Bool). y && recordsOk n (i + 1 + 1) (drop (i + 1) t)) e ∙ one-on (recordsOk n) (alike n) t i (λ s r rs. refl) noStation l here
+judged n t i z l here e = ap (λ (y : Bool). y && recordsOk n (i + 1 + 1) (drop (i + 1) t)) e ∙ one-on (recordsOk n) t i (λ s r rest. recordOk n s r && rest) (λ s r rs. refl) noStation l here
 
 all-judged : (n : ℕ) (t : List Station) (i : ℕ) → length t ≤ i → Known n t i → true ≡ recordsOk n 1 t
 unfolding recordsOk
-all-judged n t i l here = at-end (recordsOk n) (alike n) t i l here
+all-judged n t i l here = at-end (recordsOk n) t i l here
 
 formed : (n : ℕ) (t : List Station) (z : Bool) → z ≡ sized (length t) n → (z && recordsOk n 1 t) ≡ wellFormed n t
 unfolding wellFormed
@@ -115,7 +112,7 @@ module _ {M : Type 1} (𝓤 : URA M) (H : Heap 𝓤) (A : Atoms 𝓤) (W : Given
 
       -- the slice, and the locals: local k stands at 3 + 2 · (11 − k)
       abbrev Inv : Far → List (Item 𝓤)
-      Inv x = ‵ (Shown κ b o t) ∷ ‵ (flft κ q) ∷ ‵ (Value γ t) ∷ bare tyBool l₁₁ (bare Sn′.mir l₁₀ (bare tyPtr l₉ (bare tyBool l₈ (bare (tyInt w64) l₇ (bare (tyInt w64) l₆ (bare tyBool l₅ (bare Sn′.mir l₄ (full (tyInt w64) l₃ (vint w64 (x .i)) (full (tyInt w64) l₂ (vint w64 n) (full shownTy l₁ (table) (bare tyBool l₀ [])))))))))))
+      Inv x = ‵ (Shown κ b o t) ∷ ‵ (flft κ q) ∷ ‵ (Value γ t) ∷ bare tyBool l₁₁ (bare Sn′.mir l₁₀ (bare tyPtr l₉ (bare tyBool l₈ (bare (tyInt w64) l₇ (bare (tyInt w64) l₆ (bare tyBool l₅ (bare Sn′.mir l₄ (full (tyInt w64) l₃ (vint w64 (x .i)) (full (tyInt w64) l₂ (vint w64 n) (full shownTy l₁ table (bare tyBool l₀ [])))))))))))
 
       -- what follows the loop in its branch, and the branch in the function
       abbrev ending : Body
@@ -135,13 +132,15 @@ module _ {M : Type 1} (𝓤 : URA M) (H : Heap 𝓤) (A : Atoms 𝓤) (W : Given
           let l : x .i < length t = ltb→lt (x .i) (length t) h in
           let offset< : x .i * recordBytes < 2 ^ 64 = offset-fits t room (x .i) l in
           let more< : x .i + 1 < 2 ^ 64 = next-fits t room (x .i) l in
+          -- station = table[i]
           changes ! (times ! recordBytes tt (local ! 19 refl) offset<) 11 refl (tt, record { fits = offset< }) $
           sets ! (offset-to ! recordBytes (x .i) (field-of ! 23 refl refl refl) (local ! 11 refl)) 7 refl (tt, tt) $
           looks ! b o t tt (λ q′. elem-out ! Sn.the-row (Is Sn.the-row) (shows 𝓤 H A Sn.the-row) recordVals (LL.tells Sn.the-type Sn′.the-laws) q′ t (x .i) noStation b o l (λ is.
-          -- [the record at _3; what it owns; the others; …]
+          -- [the record at i; what it owns; the others; …]
           sets ! (of-opd ! (load ! (from ! (hop ! (look ! 10 refl) (stop !))) (look-raw ! 0 refl))) 8 refl (record-typed 𝓤 H A W (getD t (x .i) noStation) is) $
           elem-back ! Sn.the-row q′ t (x .i) noStation (recordVals (getD t (x .i) noStation)) b o l $ shuts-slice ! tt Sn.the-row q′ t b o $ move ! (1 ∷ 0 ∷ []) $
           sets ! (of-opd ! (local ! 5 refl)) 17 refl (record-typed 𝓤 H A W (getD t (x .i) noStation) is) $
+          -- record_ok(n, i + 1, station)
           changes ! (bin ! (local ! 19 refl) (lit ! tt) (record { fits = more< })) 11 refl (tt, record { fits = more< }) $
           calls-plain ! (fmOf 𝓤 H (W .laws) 𝓣) (record-ok.signature .params) (record-ok.signature .result) (record-ok.ended .kept) (record-ok.clauses 𝓤 H A mem run) judges
           (n, (x .i + 1, (getD t (x .i) noStation, tt))) tt (vint w64 n ∷ [], (vint w64 (x .i + 1) ∷ [], (recordVals (getD t (x .i) noStation), tt)))
@@ -168,9 +167,10 @@ module _ {M : Type 1} (𝓤 : URA M) (H : Heap 𝓤) (A : Atoms 𝓤) (W : Given
         qed W ((‵ (flft κ q) ⊛ ‵ ftrue) ∷ ‵ (owns (ShrSlice (named 0) κ Sn.the-row ∷ usize ∷ []) a at) ∷ []) ∵ enter ! (𝓣 .C) (𝓣 .Λ) code.function (table ∷ vint w64 n ∷ []) _ $
         alloc1 ! (λ l₀. alloc1 ! (λ l₁. alloc1 ! (λ l₂. alloc1 ! (λ l₃. alloc1 ! (λ l₄. alloc1 ! (λ l₅. alloc1 ! (λ l₆. alloc1 ! (λ l₇. alloc1 ! (λ l₈. alloc1 ! (λ l₉. alloc1 ! (λ l₁₀. alloc1 ! (λ l₁₁. alloc0 ! $ params1 ! $
         pass1 ! (init ! 20 refl (tt, (tt, (record { fits = room .0 }, tt)))) $ pass1 ! (init ! 18 refl (tt, record { fits = n< })) $ pass0 ! $
-        -- what the parameters own is taken apart: [the records; the token; the ghost value; _11; …]
+        -- what the parameters own is taken apart: [the records; the token; the ghost value; the locals, the last one first]
         move ! (25 ∷ 24 ∷ []) $ receives ! b o t $
         sets ! (of-opd ! (field-of ! 23 refl refl refl)) 13 refl (tt, record { fits = room .0 }) $
+        -- is_sized(table.len(), n)
         calls-plain ! (fmOf 𝓤 H (W .laws) 𝓣) (is-sized.signature .params) (is-sized.signature .result) (is-sized.ended .kept) (is-sized.clauses 𝓤 H A mem run) sizes (length t, (n, tt)) tt (vint w64 (length t) ∷ [], (vint w64 n ∷ [], tt))
         (uint-makes 𝓤 H A W w64, (uint-makes 𝓤 H A W w64, tt)) ((refl, room .0), ((refl, n<), tt)) (id⊢ 𝓤 (emp 𝓤)) (λ z. vbool z) bool-tells (λ z. z ≡ sized (length t) n) (λ z _. id⊢ 𝓤 _)
         (and-then ! (local ! 14 refl) (and-then ! (local ! 22 refl) (no-more !))) (λ z e _.
