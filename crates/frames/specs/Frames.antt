@@ -1,10 +1,9 @@
 -- What a line of the bench's input means, and how a byte is written: 01, "Frames and the bench program".
 use Prim.Native.Nat.{ℕ, _+_, _-_, _*_, _/_, _%_}
-use mathlib.Core.Bool.{Bool, cond}
+use mathlib.Core.Bool.{cond}
 use mathlib.Core.List.{List}
 use lib.Dec.{eqb, leb, ltb}
 use lib.ListN.{length, getD}
-use Rattle.station.specs.declared.Step.{Step}
 use Rattle.station.specs.declared.Step.the-variants.{Ask, Send, Enter, Leave, Give, TakeRequest, TakeAnswer}
 use Rattle.frames.specs.declared.Byte.{Byte}
 use Rattle.frames.specs.declared.Byte.the-variants as byte

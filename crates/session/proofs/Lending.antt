@@ -3,7 +3,7 @@
 --     Loan                 a way to lend what lies in memory for one call, as the callee's first parameter, and what lies there afterwards
 --     as-mut, as-shr       an array is lent as a `&mut [T]`, after which it is what the callee made of it, or as a `&[T]`
 --     calls-lending        a call by such a loan. What is lent stands at the head of the context, before and afterwards; the operands are read with one thing more there. The other parameters and the result are plain data
-use mathlib.Core.Path.{_≡_, refl, sym, ap, subst}
+use mathlib.Core.Path.{refl, sym, ap, subst}
 use Prim.Native.Nat.{ℕ}
 use mathlib.Core.List.{List, [], _∷_}
 use lib.ListN.{length}
@@ -18,7 +18,7 @@ use ghost.Atoms.{Atoms, sem}
 use contract.Lifetimes.{Lfts}
 use contract.Monad.{fact}
 use sound.WpLaws.{FmC}
-use types.Kit.{Given, Item, ‵, raw, _⊛_, some, later, Goal, Post, runs, lands, Seq, Step, step, _$_, _∵_, !, qed, by, move, keep, drop, use0, use1, use3, split, join, rewrite, pick, fsplit, fjoin, fpick, fpack, feqL, feqI, await, updating, now as at-once, done}
+use types.Kit.{Given, Item, ‵, raw, _⊛_, some, later, Goal, Post, runs, lands, Seq, Step, step, _$_, _∵_, !, qed, by, move, keep, drop, use0, use1, use3, split, join, rewrite, pick, fsplit, fjoin, fpick, fpack, feqL, feqI, await, updating, now as at-once}
 use types.Tokens.{lft-new, lft-end, lent-back}
 use types.Run.{Opds}
 use types.SemTy.{cells, Arr}

@@ -1,11 +1,10 @@
 -- Laws of the lines behind the first: what is left of them at each turn of the loop, and what is written when it ends.
 use Prim.Native.Nat.{ℕ, suc, _+_, _-_, _*_, _<_, _≤_}
-use mathlib.Core.Path.{_≡_, refl, sym, _∙_, ap}
-use mathlib.Core.Bool.{Bool, true, false, cond}
+use mathlib.Core.Path.{_≡_, refl, _∙_, ap}
 use mathlib.Core.List.{List, [], _∷_, _++_, append-assoc}
 use native.Mathlib.Omega.{arith}
 use lib.Dec.{eqb}
-use lib.ListN.{length, take, drop, length-append, length-set}
+use lib.ListN.{length, take, length-append, length-set}
 use lib.Seq.{sets, sets-eq, length-sets}
 use types.Run.{OneOf, miss}
 use denote.Enum.Declared.{tagOf}
@@ -19,30 +18,28 @@ use Rattle.frames.specs.declared.Frame.the-variants as frame
 use Rattle.frames.specs.Frames.{frameAt}
 use Rattle.session.specs.declared.Turned.{Turned}
 use Rattle.session.specs.Session.{turnOf, shownOf, lineOf, turnLine, badLine, linesIn, framesFrom, turnLines, LinesWritten}
+use Rattle.session.proofs.Cases.{either}
 use Rattle.session.proofs.Stores.{sets-next, line-length}
 
 -- ---- the station in Holding fits a byte
-either-most : (b : Bool) (x y most : ℕ) → x ≤ most → y ≤ most → cond b x y ≤ most
-either-most true x y most p q = p
-either-most false x y most p q = q
-
 holder-most : (s : ℕ) (t : List Station) → holderFrom s t ≤ s + length t
 unfolding holderFrom
 holder-most s [] = omega arith
 holder-most s (r ∷ rs) =
-    either-most (eqb (r .head .place) HOLDING) s (holderFrom (s + 1) rs) (s + suc (length rs)) (omega arith)
+    either (λ (h : ℕ). h ≤ s + suc (length rs)) (eqb (r .head .place) HOLDING) s (holderFrom (s + 1) rs) (omega arith)
     (omega (arith, holder-most (s + 1) rs))
 
-either-length : (b : Bool) (x y : List Station) → length x ≡ length y → length (cond b x y) ≡ length y
-either-length true x y e = e
-either-length false x y e = refl
-
-pub after-length : (n : ℕ) (t : List Station) (x : Step) → length (after n t x) ≡ length t
+after-length : (n : ℕ) (t : List Station) (x : Step) → length (after n t x) ≡ length t
 unfolding after
 after-length n t x =
-    either-length (eqb (answer n t x) ACCEPTED) (landed (outcomeIn n t x) t (seat x) (peerSeat t x)) t (simp length-set)
+    either (λ (t′ : List Station). length t′ ≡ length t) (eqb (answer n t x) ACCEPTED)
+    (landed (outcomeIn n t x) t (seat x) (peerSeat t x)) t (simp length-set) refl
 
-pub holder-byte : (n : ℕ) (t : List Station) (x : Step) (turned : Turned) → length t ≡ 32 → turned ≡ turnOf t n x → turned .holder < 256
+pub holder-byte :
+    (n : ℕ) (t : List Station) (x : Step) (turned : Turned) →
+    length t ≡ 32 →
+    turned ≡ turnOf t n x →
+    turned .holder < 256
 unfolding turnOf
 holder-byte n t x turned e et = rw et (omega (arith, holder-most 1 (after n t x), after-length n t x))
 
@@ -79,7 +76,7 @@ module _ (s : List ℕ) (n total k : ℕ) (t : List Station) (more : k < total) 
   unfolding framesFrom turnLines
   left-move x e = rw (one-more, e)
 
-  pub left-bad : OneOf (0 ∷ 2 ∷ []) (tagOf frame-type (frameAt s (7 * k))) → linesLeft s n total t k ≡ badLine
+  left-bad : OneOf (0 ∷ 2 ∷ []) (tagOf frame-type (frameAt s (7 * k))) → linesLeft s n total t k ≡ badLine
   unfolding framesFrom
   left-bad h = rw one-more (no-step n t (frameAt s (7 * k)) (framesFrom (total - (k + 1)) (k + 1) s) h)
 

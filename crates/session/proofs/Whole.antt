@@ -18,20 +18,19 @@ use Rattle.frames.proofs.Frame.{the-type as frame-type}
 use Rattle.frames.specs.declared.Frame.{Frame}
 use Rattle.frames.specs.declared.Frame.the-variants as frame
 use Rattle.frames.specs.Frames.{frameAt}
-use Rattle.session.specs.Session.{TOO_LONG, INPUT_LIMIT, openedFor, lineOf, badLine, linesIn, framesFrom, turnLines, sessionLines, runLines, roomFor, written, Ran, LinesWritten}
+use Rattle.session.specs.declared.Opened.{Opened}
+use Rattle.session.specs.Session.{TOO_LONG, INPUT_LIMIT, openedFor, lineOf, badLine, linesIn, framesFrom, sessionLines, runLines, roomFor, written, Ran, LinesWritten}
+use Rattle.session.proofs.Cases.{either}
 use Rattle.session.proofs.Stores.{sets-next, line-length}
+use Rattle.session.proofs.Turns.{linesLeft}
 
 -- ---- the room
-either-least : (b : Bool) (x y least : ℕ) → least ≤ x → least ≤ y → least ≤ cond b x y
-either-least true x y least p q = p
-either-least false x y least p q = q
-
 room-least : (len : ℕ) → 9 ≤ roomFor len
 unfolding roomFor linesIn
 room-least zero = omega arith
 room-least (suc m) =
     rw (ne-eqb (suc m) 0 (λ e. omega arith))
-    (either-least (ltb INPUT_LIMIT (suc m)) 9 _ 9 (omega arith) (omega arith))
+    (either (λ (room : ℕ). 9 ≤ room) (ltb INPUT_LIMIT (suc m)) 9 _ (omega arith) (omega arith))
 
 pub room-line : (len room : ℕ) → roomFor len ≤ room → 9 ≤ room
 room-line len room h = omega (arith, room-least len)
@@ -54,27 +53,30 @@ module _ (s old : List ℕ) where
     all-written = rw (le-ltb _ _ room)
 
     -- a run of one line
-    pub one-line : (code : ℕ) (out : List ℕ) → runLines s ≡ lineOf code 0 0 0 → out ≡ sets old 0 (lineOf code 0 0 0) → Ran s old out 9
+    pub one-line :
+        (code : ℕ) (out : List ℕ) →
+        runLines s ≡ lineOf code 0 0 0 →
+        out ≡ sets old 0 (lineOf code 0 0 0) →
+        Ran s old out 9
     one-line code out e stores =
-        let nine : length (lineOf code 0 0 0) ≡ 9 = line-length code 0 0 0 in
-        let fits : 0 + length (lineOf code 0 0 0) ≤ length old = omega (arith, room-least (length s)) in
-        let end : 0 + length (lineOf code 0 0 0) ≡ 9 = omega arith in
+        let line = lineOf code 0 0 0 in
+        let nine : 0 + length line ≡ 9 = omega (arith, line-length code 0 0 0) in
         record {
-          count = rw (all-written, e, nine);
-          bytes = stores ∙ sets-eq (lineOf code 0 0 0) old 0 fits ∙ rw (all-written, e, end);
+          count = rw (all-written, e) (omega arith);
+          bytes = stores ∙ sets-eq line old 0 (omega (arith, room-least (length s))) ∙ rw (all-written, e, nine);
         }
 
     -- a run whose first line is followed by others
     pub more-lines :
         (code n r : ℕ) (t : List Station) (first out : List ℕ) →
-        runLines s ≡ lineOf code 0 0 0 ++ turnLines n t (framesFrom (linesIn (length s) - 1) 1 s) →
+        runLines s ≡ lineOf code 0 0 0 ++ linesLeft s n (linesIn (length s)) t 1 →
         first ≡ sets old 0 (lineOf code 0 0 0) →
         length out ≡ length first →
         LinesWritten s n t first out r →
         Ran s old out r
     more-lines code n r t first out e stores kept lines =
         let line = lineOf code 0 0 0 in
-        let others = turnLines n t (framesFrom (linesIn (length s) - 1) 1 s) in
+        let others = linesLeft s n (linesIn (length s)) t 1 in
         let nine : length line ≡ 9 = line-length code 0 0 0 in
         let size : length first ≡ length old = ap length stores ∙ length-sets old 0 line in
         let nine-of-first : length (take 9 first) ≡ 9 = length-take-le 9 first (omega (arith, room-least (length s))) in
@@ -100,9 +102,11 @@ within : (s : List ℕ) → length s ≤ INPUT_LIMIT → runLines s ≡ sessionL
 unfolding runLines
 within s h = rw (le-ltb _ _ h)
 
-frames-first : (s : List ℕ) → 1 ≤ length s → framesFrom (linesIn (length s)) 0 s ≡ frameAt s 0 ∷ framesFrom (linesIn (length s) - 1) 1 s
+first-frame :
+    (s : List ℕ) → 1 ≤ length s →
+    framesFrom (linesIn (length s)) 0 s ≡ frameAt s 0 ∷ framesFrom (linesIn (length s) - 1) 1 s
 unfolding framesFrom linesIn
-frames-first s h =
+first-frame s h =
     let some : linesIn (length s) ≡ suc (linesIn (length s) - 1) = omega arith in
     ap (λ (left : ℕ). framesFrom left 0 s) some
 
@@ -113,12 +117,13 @@ no-open (frame.Open n) fs h = absurd (miss (1 ∷ 2 ∷ []) 0 tt h)
 no-open (frame.Move x) fs h = refl
 no-open frame.Bad fs h = refl
 
-pub not-opened : (s : List ℕ) → length s ≤ INPUT_LIMIT → OneOf (1 ∷ 2 ∷ []) (tagOf frame-type (frameAt s 0)) → runLines s ≡ badLine
+pub not-opened :
+    (s : List ℕ) → length s ≤ INPUT_LIMIT → OneOf (1 ∷ 2 ∷ []) (tagOf frame-type (frameAt s 0)) → runLines s ≡ badLine
 unfolding sessionLines framesFrom linesIn
 not-opened [] h other = within [] h
 not-opened (x ∷ xs) h other =
     within (x ∷ xs) h
-    ∙ ap sessionLines (frames-first (x ∷ xs) (omega arith))
+    ∙ ap sessionLines (first-frame (x ∷ xs) (omega arith))
     ∙ no-open (frameAt (x ∷ xs) 0) (framesFrom (linesIn (length (x ∷ xs)) - 1) 1 (x ∷ xs)) other
 
 pub opening-some : (s : List ℕ) (n : ℕ) → frameAt s 0 ≡ frame.Open n → 1 ≤ length s
@@ -126,28 +131,39 @@ unfolding frameAt
 opening-some [] n e = let z : _≡_ {A = ℕ} 0 1 = cc in omega arith
 opening-some (x ∷ xs) n e = omega arith
 
--- the code of an opening decides what is written
-by-code : (b : Bool) (code : ℕ) (others : List ℕ) → code ≡ cond b ACCEPTED BAD_COUNT → (code ≡ ACCEPTED → ⊥) → cond b (lineOf ACCEPTED 0 0 0 ++ others) (lineOf BAD_COUNT 0 0 0) ≡ lineOf code 0 0 0
-by-code true code others e h = absurd (h e)
-by-code false code others e h = rw e
+-- the lines of an opening with any count, by its code
+module _ (code : ℕ) (others : List ℕ) where
+  abbrev lines-by : Bool → List ℕ
+  lines-by ok = cond ok (lineOf ACCEPTED 0 0 0 ++ others) (lineOf BAD_COUNT 0 0 0)
 
-by-code-0 : (b : Bool) (code : ℕ) (others : List ℕ) → code ≡ cond b ACCEPTED BAD_COUNT → code ≡ ACCEPTED → cond b (lineOf ACCEPTED 0 0 0 ++ others) (lineOf BAD_COUNT 0 0 0) ≡ lineOf code 0 0 0 ++ others
-by-code-0 true code others e h = rw e
-by-code-0 false code others e h = absurd (omega arith)
+  by-refusal : (ok : Bool) → code ≡ cond ok ACCEPTED BAD_COUNT → (code ≡ ACCEPTED → ⊥) → lines-by ok ≡ lineOf code 0 0 0
+  by-refusal true e h = absurd (h e)
+  by-refusal false e h = rw e
 
-module _ (s : List ℕ) (n code : ℕ) (short : length s ≤ INPUT_LIMIT) (first : frameAt s 0 ≡ frame.Open n) (answered : code ≡ openedFor n .code) where
-  opening-lines :
-      runLines s ≡ cond (countOk n) (lineOf ACCEPTED 0 0 0 ++ turnLines n opened (framesFrom (linesIn (length s) - 1) 1 s)) (lineOf BAD_COUNT 0 0 0)
+  by-acceptance : (ok : Bool) → code ≡ cond ok ACCEPTED BAD_COUNT → code ≡ ACCEPTED → lines-by ok ≡ lineOf code 0 0 0 ++ others
+  by-acceptance true e h = rw e
+  by-acceptance false e h = absurd (omega arith)
+
+module _
+    (s : List ℕ) (n : ℕ) (new : Opened)
+    (short : length s ≤ INPUT_LIMIT) (first : frameAt s 0 ≡ frame.Open n) (answered : new ≡ openedFor n) where
+  opening-lines : runLines s ≡ lines-by (new .code) (linesLeft s n (linesIn (length s)) opened 1) (countOk n)
   unfolding sessionLines
-  opening-lines = within s short ∙ rw (frames-first s (opening-some s n first), first)
+  opening-lines = within s short ∙ rw (first-frame s (opening-some s n first), first)
 
-  pub refused : (code ≡ ACCEPTED → ⊥) → runLines s ≡ lineOf code 0 0 0
+  code-of : new .code ≡ cond (countOk n) ACCEPTED BAD_COUNT
   unfolding openedFor openCode
-  refused h = opening-lines ∙ by-code (countOk n) code _ answered h
+  code-of = ap (λ (o : Opened). o .code) answered
 
-  pub accepted : code ≡ ACCEPTED → runLines s ≡ lineOf code 0 0 0 ++ turnLines n (openedFor n .table) (framesFrom (linesIn (length s) - 1) 1 s)
-  unfolding openedFor openCode
-  accepted h = opening-lines ∙ by-code-0 (countOk n) code _ answered h
+  table-of : new .table ≡ opened
+  unfolding openedFor
+  table-of = ap (λ (o : Opened). o .table) answered
+
+  pub refused : (new .code ≡ ACCEPTED → ⊥) → runLines s ≡ lineOf (new .code) 0 0 0
+  refused h = opening-lines ∙ by-refusal (new .code) _ (countOk n) code-of h
+
+  pub accepted : new .code ≡ ACCEPTED → runLines s ≡ lineOf (new .code) 0 0 0 ++ linesLeft s n (linesIn (length s)) (new .table) 1
+  accepted h = rw table-of (opening-lines ∙ by-acceptance (new .code) _ (countOk n) code-of h)
 
 -- what a run writes lies in its output
 pub written-fits : (s old out : List ℕ) (r : ℕ) → Ran s old out r → r ≤ length out

@@ -6,10 +6,9 @@ use station::NO_SUCH_STATION;
 use station::Station;
 use station::Step;
 ghost use mathlib.Core.Path.{_≡_};
-ghost use Prim.Native.Nat.{_+_, _*_, _≤_, _<_};
+ghost use Prim.Native.Nat.{_+_, _*_, _≤_};
 ghost use lib.ListN.{length};
 ghost use lib.Seq.{sets};
-ghost use Rattle.station.specs.Rules.{countOk};
 ghost use Rattle.session.specs.Session.{openedFor, turnOf, shownOf, pairLine, lineOf, linesIn, roomFor, LinesWritten, Ran};
 
 pub const BAD_FRAME: u8 = 9;

@@ -12,7 +12,7 @@ use Rattle.frames.proofs.frame_at.Tie as tie
 returns : tie.Need-returns
 unfolding frameAt joined
 returns c =
-    let short : length ((c .before .before .args .input .now)) - (c .before .before .args .at) < 7 = omega arith in
+    let short : length (c .before .before .args .input .now) - c .before .before .args .at < 7 = omega arith in
     simp (lt-ltb _ _ short)
 
 sub-if2 : tie.Need-sub-if2
@@ -53,9 +53,11 @@ enum-told c = search needs
 returns-4 : tie.Need-returns-4
 unfolding frameAt joined
 returns-4 c =
+    let at-if3 = c .before .before .before .before .before in
+    let at-if2 = at-if3 .before .before in
     simp (
-      le-ltb _ _ (c .before .before .before .before .before .before .before .if2 .left),
-      eq-eqb _ _ (c .before .before .before .before .before .if3 .left),
+      le-ltb _ _ (at-if2 .if2 .left),
+      eq-eqb _ _ (at-if3 .if3 .left),
       sym (c .before .before .byte-of .ensures) ∙ (c .enum-told .given .1),
     )
 
@@ -83,10 +85,14 @@ enum-told-2 c = search needs
 returns-5 : tie.Need-returns-5
 unfolding frameAt joined
 returns-5 c =
+    let at-kind = c .before .before .before .before .before .before in
+    let at-byte-of = at-kind .before .before in
+    let at-if3 = at-byte-of .before .before .before in
+    let at-if2 = at-if3 .before .before in
     simp (
-      le-ltb _ _ (c .before .before .before .before .before .before .before .before .before .before .before .before .before .if2 .left),
-      eq-eqb _ _ (c .before .before .before .before .before .before .before .before .before .before .before .if3 .left),
-      sym (c .before .before .before .before .before .before .before .before .byte-of .ensures) ∙ (c .before .before .before .before .before .before .kind .given .1),
+      le-ltb _ _ (at-if2 .if2 .left),
+      eq-eqb _ _ (at-if3 .if3 .left),
+      sym (at-byte-of .byte-of .ensures) ∙ (at-kind .kind .given .1),
       sym (c .before .before .byte-of2 .ensures) ∙ (c .enum-told2 .given .1),
     )
 
@@ -114,11 +120,17 @@ enum-told-3 c = search needs
 returns-6 : tie.Need-returns-6
 unfolding frameAt joined
 returns-6 c =
+    let at-station = c .before .before .before .before .before .before in
+    let at-byte-of2 = at-station .before .before in
+    let at-kind = at-byte-of2 .before .before .before .before in
+    let at-byte-of = at-kind .before .before in
+    let at-if3 = at-byte-of .before .before .before in
+    let at-if2 = at-if3 .before .before in
     simp (
-      le-ltb _ _ (c .before .before .before .before .before .before .before .before .before .before .before .before .before .before .before .before .before .before .before .if2 .left),
-      eq-eqb _ _ (c .before .before .before .before .before .before .before .before .before .before .before .before .before .before .before .before .before .if3 .left),
-      sym (c .before .before .before .before .before .before .before .before .before .before .before .before .before .before .byte-of .ensures) ∙ (c .before .before .before .before .before .before .before .before .before .before .before .before .kind .given .1),
-      sym (c .before .before .before .before .before .before .before .before .byte-of2 .ensures) ∙ (c .before .before .before .before .before .before .station .given .1),
+      le-ltb _ _ (at-if2 .if2 .left),
+      eq-eqb _ _ (at-if3 .if3 .left),
+      sym (at-byte-of .byte-of .ensures) ∙ (at-kind .kind .given .1),
+      sym (at-byte-of2 .byte-of2 .ensures) ∙ (at-station .station .given .1),
       sym (c .before .before .byte-of3 .ensures) ∙ (c .enum-told3 .given .1),
     )
 
@@ -128,12 +140,19 @@ meaning-of-requires c κs = search needs
 returns-7 : tie.Need-returns-7
 unfolding frameAt joined
 returns-7 c =
+    let at-byte-of3 = c .before .before .before .before in
+    let at-station = at-byte-of3 .before .before .before .before in
+    let at-byte-of2 = at-station .before .before in
+    let at-kind = at-byte-of2 .before .before .before .before in
+    let at-byte-of = at-kind .before .before in
+    let at-if3 = at-byte-of .before .before .before in
+    let at-if2 = at-if3 .before .before in
     simp (
-      le-ltb _ _ (c .before .before .before .before .before .before .before .before .before .before .before .before .before .before .before .before .before .before .before .before .before .if2 .left),
-      eq-eqb _ _ (c .before .before .before .before .before .before .before .before .before .before .before .before .before .before .before .before .before .before .before .if3 .left),
-      sym (c .before .before .before .before .before .before .before .before .before .before .before .before .before .before .before .before .byte-of .ensures) ∙ (c .before .before .before .before .before .before .before .before .before .before .before .before .before .before .kind .given .1),
-      sym (c .before .before .before .before .before .before .before .before .before .before .byte-of2 .ensures) ∙ (c .before .before .before .before .before .before .before .before .station .given .1),
-      sym (c .before .before .before .before .byte-of3 .ensures) ∙ (c .before .before .other .given .1),
+      le-ltb _ _ (at-if2 .if2 .left),
+      eq-eqb _ _ (at-if3 .if3 .left),
+      sym (at-byte-of .byte-of .ensures) ∙ (at-kind .kind .given .1),
+      sym (at-byte-of2 .byte-of2 .ensures) ∙ (at-station .station .given .1),
+      sym (at-byte-of3 .byte-of3 .ensures) ∙ (c .before .before .other .given .1),
       (c .meaning-of .ensures),
     )
 

@@ -7,13 +7,6 @@ use Rattle.session.specs.Session.{linesIn}
 use Rattle.session.proofs.Turns.{Going, holder-byte, turned-done, stopped, ended}
 use Rattle.session.proofs.put_turns.Statement.{statement}
 use Rattle.session.proofs.put_turns.Tie as tie
-use Rattle.session.proofs.put_turns.Reads as reads
-use Rattle.session.proofs.put_turns.Lts as lts
-use Rattle.frames.proofs.frame_at.Reads as frame-at-reads
-use Rattle.session.proofs.lines_in.Reads as lines-in-reads
-use Rattle.session.proofs.put_line.Reads as put-line-reads
-use Rattle.session.proofs.shown.Reads as shown-reads
-use Rattle.session.proofs.turn.Reads as turn-reads
 
 abbrev Inv-loop : tie.InvT-loop
 Inv-loop input n output₀ total table₀ k₀ output table k = Going input n table₀ output₀ total output table k
@@ -26,7 +19,15 @@ lines-in-requires c κs = search needs
 
 loop-holds : tie.Need-loop-holds Inv-loop μ-loop
 unfolding linesIn
-loop-holds c = record { low = search needs; high = omega (arith, (c .before .before .before .pre)); size = refl; stations = search needs; count = refl; bytes = refl }
+loop-holds c =
+    record {
+      low = search needs;
+      high = omega (arith, c .before .before .before .pre);
+      size = refl;
+      stations = search needs;
+      count = refl;
+      bytes = refl;
+    }
 
 mul-frame-at : tie.Need-mul-frame-at Inv-loop μ-loop
 mul-frame-at c = search needs
@@ -54,11 +55,17 @@ same-length c = search needs
 
 returns : tie.Need-returns Inv-loop μ-loop
 returns c =
+    let at-match = c .before .before .before .before in
+    let at-frame-at = at-match .before in
+    let at-loop-test = at-frame-at .before in
+    let at-loop = at-loop-test .before in
+    let at-lines-in = at-loop .before in
+    let at-pre = at-lines-in .before .before .before in
     rw (c .before .before .put-line .ensures)
-    (stopped _ _ _ _ _ _ _ _ (c .before .before .before .before .before .before .before .loop .inv) (c .before .before .before .before .before .before .before .before .lines-in .ensures)
-    (omega (arith, (c .before .before .before .before .before .before .before .before .before .before .before .pre), (c .before .before .before .before .before .before .before .before .lines-in .ensures)))
-    (c .before .before .before .before .before .before .loop-test .taken)
-    (rw (c .before .before .before .before .before .frame-at .ensures) at (c .before .before .before .before .match .keys2)))
+    (stopped _ _ _ _ _ _ _ _ (at-loop .loop .inv) (at-lines-in .lines-in .ensures)
+    (omega (arith, at-pre .pre, at-lines-in .lines-in .ensures))
+    (at-loop-test .loop-test .taken)
+    (rw (at-frame-at .frame-at .ensures) at (at-match .match .keys2)))
 
 turn-requires : tie.Need-turn-requires Inv-loop μ-loop
 turn-requires c κs = search needs
@@ -73,7 +80,10 @@ mul-put-line-2 : tie.Need-mul-put-line-2 Inv-loop μ-loop
 mul-put-line-2 c = search needs
 
 cast-put-line : tie.Need-cast-put-line Inv-loop μ-loop
-cast-put-line c = omega (arith, holder-byte _ _ _ _ ((c .before .before .before .before .before .before .before .before .before .before .before .loop .inv .stations)) (c .before .before .before .before .before .turn .ensures))
+cast-put-line c =
+    let at-turn = c .before .before .before .before .before in
+    let at-loop = at-turn .before .before .before .before .before .before in
+    omega (arith, holder-byte _ _ _ _ (at-loop .loop .inv .stations) (at-turn .turn .ensures))
 
 put-line-requires-2 : tie.Need-put-line-requires-2 Inv-loop μ-loop
 put-line-requires-2 c κs = search needs
@@ -86,11 +96,18 @@ loop-less c = search needs
 
 loop-again : tie.Need-loop-again Inv-loop μ-loop
 loop-again c =
-    turned-done _ _ _ _ _ _ _ _ (c .before .before .before .before .before .before .before .before .before .before .before .before .before .before .before .loop .inv) _ _ _ _ _ (c .before .before .before .before .before .before .before .before .before .before .before .before .before .before .loop-test .taken)
-    (sym (c .before .before .before .before .before .before .before .before .before .before .before .before .before .frame-at .ensures) ∙ (c .before .before .before .before .before .before .before .before .before .before .before .step .given .1))
-    (c .before .before .before .before .before .before .before .before .before .turn .ensures)
-    (c .before .before .before .before .before .before .before .shown .ensures)
-    (c .before .before .before .before .before .before .shown2 .ensures)
+    let at-shown2 = c .before .before .before .before .before .before in
+    let at-shown = at-shown2 .before in
+    let at-turn = at-shown .before .before in
+    let at-step = at-turn .before .before in
+    let at-frame-at = at-step .before .before in
+    let at-loop-test = at-frame-at .before in
+    let at-loop = at-loop-test .before in
+    turned-done _ _ _ _ _ _ _ _ (at-loop .loop .inv) _ _ _ _ _ (at-loop-test .loop-test .taken)
+    (sym (at-frame-at .frame-at .ensures) ∙ at-step .step .given .1)
+    (at-turn .turn .ensures)
+    (at-shown .shown .ensures)
+    (at-shown2 .shown2 .ensures)
     (c .before .before .before .put-line2 .ensures)
 
 mul-result-2 : tie.Need-mul-result-2 Inv-loop μ-loop
@@ -101,7 +118,11 @@ same-length-2 c = search needs
 
 returns-2 : tie.Need-returns-2 Inv-loop μ-loop
 returns-2 c =
-    ended _ _ _ _ _ _ _ _ (c .before .loop .inv) (c .before .before .lines-in .ensures) (omega (arith, (c .before .before .before .before .before .pre), (c .before .before .lines-in .ensures))) (c .loop-test .left)
+    let at-lines-in = c .before .before in
+    let at-pre = at-lines-in .before .before .before in
+    ended _ _ _ _ _ _ _ _ (c .before .loop .inv) (at-lines-in .lines-in .ensures)
+    (omega (arith, at-pre .pre, at-lines-in .lines-in .ensures))
+    (c .loop-test .left)
 
 pub put-turns-spec : {M : Type 1} → statement M
 put-turns-spec =

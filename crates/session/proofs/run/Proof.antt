@@ -1,19 +1,10 @@
 -- Proof of `run`: each return is one case of what a run writes.
-use mathlib.Core.Path.{sym, _∙_, ap}
+use mathlib.Core.Path.{sym, _∙_}
 use native.Mathlib.Omega.{arith}
 use borrow.Author.Needs.{needs}
-use Rattle.session.specs.declared.Opened.{Opened}
-use Rattle.session.specs.Session.{openedFor}
 use Rattle.session.proofs.Whole.{room-line, room-lines, no-room, one-line, more-lines, too-long, not-opened, opening-some, refused, accepted}
 use Rattle.session.proofs.run.Statement.{statement}
 use Rattle.session.proofs.run.Tie as tie
-use Rattle.session.proofs.run.Reads as reads
-use Rattle.session.proofs.run.Lts as lts
-use Rattle.frames.proofs.frame_at.Reads as frame-at-reads
-use Rattle.session.proofs.open_table.Reads as open-table-reads
-use Rattle.session.proofs.put_line.Reads as put-line-reads
-use Rattle.session.proofs.put_turns.Reads as put-turns-reads
-use Rattle.session.proofs.room_for.Reads as room-for-reads
 
 room-for-requires : tie.Need-room-for-requires
 room-for-requires c κs = search needs
@@ -22,14 +13,20 @@ returns : tie.Need-returns
 returns c = no-room _ _ (rw (c .before .room-for .ensures) at (c .if1 .taken))
 
 put-line-requires : tie.Need-put-line-requires
-put-line-requires c κs = omega (arith, room-line _ _ (rw (c .before .before .before .room-for .ensures) at (c .before .before .if1 .left)))
+put-line-requires c κs =
+    let at-if1 = c .before .before in
+    let at-room-for = at-if1 .before in
+    omega (arith, room-line _ _ (rw (at-room-for .room-for .ensures) at (at-if1 .if1 .left)))
 
 same-length : tie.Need-same-length
 same-length c = search needs
 
 returns-2 : tie.Need-returns-2
 returns-2 c =
-    one-line _ _ (rw (c .before .before .before .before .before .before .room-for .ensures) at (c .before .before .before .before .before .if1 .left)) _ _ (too-long _ (c .before .before .before .before .if2 .taken)) (c .before .before .put-line .ensures)
+    let at-if2 = c .before .before .before .before in
+    let at-if1 = at-if2 .before in
+    let at-room-for = at-if1 .before in
+    one-line _ _ (rw (at-room-for .room-for .ensures) at (at-if1 .if1 .left)) _ _ (too-long _ (at-if2 .if2 .taken)) (c .before .before .put-line .ensures)
 
 frame-at-requires : tie.Need-frame-at-requires
 frame-at-requires c κs = search needs
@@ -38,47 +35,79 @@ enum-known-n : tie.Need-enum-known-n
 enum-known-n c = search needs
 
 put-line-requires-2 : tie.Need-put-line-requires-2
-put-line-requires-2 c κs = omega (arith, room-line _ _ (rw (c .before .before .before .before .before .room-for .ensures) at (c .before .before .before .before .if1 .left)))
+put-line-requires-2 c κs =
+    let at-if1 = c .before .before .before .before in
+    let at-room-for = at-if1 .before in
+    omega (arith, room-line _ _ (rw (at-room-for .room-for .ensures) at (at-if1 .if1 .left)))
 
 same-length-2 : tie.Need-same-length-2
 same-length-2 c = search needs
 
 returns-3 : tie.Need-returns-3
 returns-3 c =
-    one-line _ _ (rw (c .before .before .before .before .before .before .before .before .room-for .ensures) at (c .before .before .before .before .before .before .before .if1 .left)) _ _
-    (not-opened _ (c .before .before .before .before .before .before .if2 .left) (rw (c .before .before .before .before .before .frame-at .ensures) at (c .before .before .before .before .match .keys2)))
+    let at-match = c .before .before .before .before in
+    let at-frame-at = at-match .before in
+    let at-if2 = at-frame-at .before in
+    let at-if1 = at-if2 .before in
+    let at-room-for = at-if1 .before in
+    one-line _ _ (rw (at-room-for .room-for .ensures) at (at-if1 .if1 .left)) _ _
+    (not-opened _ (at-if2 .if2 .left) (rw (at-frame-at .frame-at .ensures) at (at-match .match .keys2)))
     (c .before .before .put-line2 .ensures)
 
 open-table-requires : tie.Need-open-table-requires
 open-table-requires c κs = search needs
 
 put-line-requires-3 : tie.Need-put-line-requires-3
-put-line-requires-3 c κs = omega (arith, room-line _ _ (rw (c .before .before .before .before .before .before .before .before .room-for .ensures) at (c .before .before .before .before .before .before .before .if1 .left)))
+put-line-requires-3 c κs =
+    let at-if1 = c .before .before .before .before .before .before .before in
+    let at-room-for = at-if1 .before in
+    omega (arith, room-line _ _ (rw (at-room-for .room-for .ensures) at (at-if1 .if1 .left)))
 
 same-length-3 : tie.Need-same-length-3
 same-length-3 c = search needs
 
 returns-4 : tie.Need-returns-4
 returns-4 c =
-    one-line _ _ (rw (c .before .before .before .before .before .before .before .before .before .before .before .before .before .room-for .ensures) at (c .before .before .before .before .before .before .before .before .before .before .before .before .if1 .left)) _ _
-    (refused _ _ _ (c .before .before .before .before .before .before .before .before .before .before .before .if2 .left) (sym (c .before .before .before .before .before .before .before .before .before .before .frame-at .ensures) ∙ (c .before .before .before .before .before .before .before .before .n .given .1)) (ap (λ (o : Opened). o .code) (c .before .before .before .before .before .before .open-table .ensures)) (c .if3 .taken))
-    (c .before .before .before .before .put-line3 .ensures)
+    let at-put-line3 = c .before .before .before .before in
+    let at-open-table = at-put-line3 .before .before in
+    let at-n = at-open-table .before .before in
+    let at-frame-at = at-n .before .before in
+    let at-if2 = at-frame-at .before in
+    let at-if1 = at-if2 .before in
+    let at-room-for = at-if1 .before in
+    one-line _ _ (rw (at-room-for .room-for .ensures) at (at-if1 .if1 .left)) _ _
+    (refused _ _ _ (at-if2 .if2 .left) (sym (at-frame-at .frame-at .ensures) ∙ at-n .n .given .1) (at-open-table .open-table .ensures) (c .if3 .taken))
+    (at-put-line3 .put-line3 .ensures)
 
 put-turns-requires : tie.Need-put-turns-requires
 put-turns-requires c κs =
-    let some = opening-some _ _ (sym (c .before .before .before .before .before .before .before .before .before .before .before .before .frame-at .ensures) ∙ (c .before .before .before .before .before .before .before .before .before .before .n .given .1)) in
-    let room = room-lines _ _ some (c .before .before .before .before .before .before .before .before .before .before .before .before .before .if2 .left) (rw (c .before .before .before .before .before .before .before .before .before .before .before .before .before .before .before .room-for .ensures) at (c .before .before .before .before .before .before .before .before .before .before .before .before .before .before .if1 .left)) in
-    (some, (c .before .before .before .before .before .before .before .before .before .before .before .before .before .if2 .left), omega (arith, (c .before .before .before .before .before .before .put-line3 .kept)))
+    let at-put-line3 = c .before .before .before .before .before .before in
+    let at-n = at-put-line3 .before .before .before .before in
+    let at-frame-at = at-n .before .before in
+    let at-if2 = at-frame-at .before in
+    let at-if1 = at-if2 .before in
+    let at-room-for = at-if1 .before in
+    let some = opening-some _ _ (sym (at-frame-at .frame-at .ensures) ∙ at-n .n .given .1) in
+    let room = room-lines _ _ some (at-if2 .if2 .left) (rw (at-room-for .room-for .ensures) at (at-if1 .if1 .left)) in
+    (some, at-if2 .if2 .left, omega (arith, at-put-line3 .put-line3 .kept))
 
 same-length-4 : tie.Need-same-length-4
 same-length-4 c = search needs
 
 returns-5 : tie.Need-returns-5
 returns-5 c =
-    more-lines _ _ (rw (c .before .before .before .before .before .before .before .before .before .before .before .before .before .before .before .before .before .before .room-for .ensures) at (c .before .before .before .before .before .before .before .before .before .before .before .before .before .before .before .before .before .if1 .left)) _ _ _ _ _ _
-    (rw (← ap (λ (o : Opened). o .table) (c .before .before .before .before .before .before .before .before .before .before .before .open-table .ensures)) at (accepted _ _ _ (c .before .before .before .before .before .before .before .before .before .before .before .before .before .before .before .before .if2 .left) (sym (c .before .before .before .before .before .before .before .before .before .before .before .before .before .before .before .frame-at .ensures) ∙ (c .before .before .before .before .before .before .before .before .before .before .before .before .before .n .given .1)) (ap (λ (o : Opened). o .code) (c .before .before .before .before .before .before .before .before .before .before .before .open-table .ensures)) (c .before .before .before .before .before .if3 .left)))
-    (c .before .before .before .before .before .before .before .before .before .put-line3 .ensures)
-    (omega (arith, (c .before .before .put-turns .kept)))
+    let at-if3 = c .before .before .before .before .before in
+    let at-put-line3 = at-if3 .before .before .before .before in
+    let at-open-table = at-put-line3 .before .before in
+    let at-n = at-open-table .before .before in
+    let at-frame-at = at-n .before .before in
+    let at-if2 = at-frame-at .before in
+    let at-if1 = at-if2 .before in
+    let at-room-for = at-if1 .before in
+    more-lines _ _ (rw (at-room-for .room-for .ensures) at (at-if1 .if1 .left)) _ _ _ _ _ _
+    (accepted _ _ _ (at-if2 .if2 .left) (sym (at-frame-at .frame-at .ensures) ∙ at-n .n .given .1) (at-open-table .open-table .ensures) (at-if3 .if3 .left))
+    (at-put-line3 .put-line3 .ensures)
+    (omega (arith, c .before .before .put-turns .kept))
     (c .before .before .put-turns .ensures)
 
 pub run-spec : {M : Type 1} → statement M
