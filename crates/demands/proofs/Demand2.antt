@@ -78,18 +78,18 @@ module _ {n : ℕ} (C : Count n) where
       landed : (x : Step) (τ : State) → Takes n σ x → Run n σ (word x) τ → Works n (reached ours n xs) x τ
       landed x τ T Q = word-works C R mirrored x Q (T .number)
 
+never : (n : ℕ) (C : Count n) (xs : List Step) (x : Step) → Proceeds n (now C xs .next) x ⊎ Refused (answer n (reached ours n xs) x)
+    → (answer n (reached ours n xs) x ≢ NOT_WELL_FORMED) × (answer n (reached ours n xs) x ≢ AT_ODDS)
+never n C xs x (inl p) = rw (landed C xs (now C xs .run) x (p .takes .next) (p .takes) (p .takes .run) .code) (omega arith)
+never n C xs x (inr r) = (r .1, r .2)
+
 pub demand-2 : Demand2 ours
-demand-2 = record {
-  follows = λ n C xs. let c = now C xs in record { state = c .next; run = c .run; shows = shows C (c .run) (c .mirrors) };
-  accepted-takes = λ n C xs σ R x e. taken C xs R x e;
-  takes-accepted = λ n C xs σ R x T. landed C xs R x (T .next) T (T .run) .code;
-  lands = λ n C xs σ R x e τ Q. shows C (run-append R Q) (landed C xs R x τ (taken C xs R x e) Q .mirrors);
-  matched = λ n C ls σ R h. let F = run-follows C stop (opened-mirrors n C) R h in (F .0, shows C R (F .1));
-  never-2-or-8 = λ n C xs x. never n C xs x (judged C xs (now C xs .run) x);
-  one-slot = λ n C ls σ R s t S T. one-message R s t (node-of S) (node-of T);
+demand-2 n C = record {
+  follows = λ xs. let c = now C xs in record { state = c .next; run = c .run; shows = shows C (c .run) (c .mirrors) };
+  accepted-takes = λ xs σ R x e. taken C xs R x e;
+  takes-accepted = λ xs σ R x T. landed C xs R x (T .next) T (T .run) .code;
+  lands = λ xs σ R x e τ Q. shows C (run-append R Q) (landed C xs R x τ (taken C xs R x e) Q .mirrors);
+  matched = λ ls σ R h. let F = run-follows C stop (opened-mirrors n C) R h in (F .0, shows C R (F .1));
+  never-2-or-8 = λ xs x. never n C xs x (judged C xs (now C xs .run) x);
+  one-slot = λ ls σ R s t S T. one-message R s t (node-of S) (node-of T);
 }
-  where
-    never : (n : ℕ) (C : Count n) (xs : List Step) (x : Step) → Proceeds n (now C xs .next) x ⊎ Refused (answer n (reached ours n xs) x)
-        → (answer n (reached ours n xs) x ≢ NOT_WELL_FORMED) × (answer n (reached ours n xs) x ≢ AT_ODDS)
-    never n C xs x (inl p) = rw (landed C xs (now C xs .run) x (p .takes .next) (p .takes) (p .takes .run) .code) (omega arith)
-    never n C xs x (inr r) = (r .1, r .2)

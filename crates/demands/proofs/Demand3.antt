@@ -78,17 +78,17 @@ not-both b m71 = omega arith
 not-both b m72 = omega arith
 
 pub demand-3-of : (E : Engine) → Demand2 E → Demand3 E
-demand-3-of E D = record {
-  one-holder = λ n C xs i j H K h k.
-      let F = D .follows n C xs in
+demand-3-of E D n C = record {
+  one-holder = λ xs i j H K h k.
+      let F = D n C .follows xs in
       excl-or-leaving (F .run) i j (node H) (node K) (holder-entered (F .shows) i H h) (holder-entered (F .shows) j K k);
-  one-errand = λ n C xs i j H K.
-      let F = D .follows n C xs in
+  one-errand = λ xs i j H K.
+      let F = D n C .follows xs in
       omega (arith, weight-shown (F .shows) i j H K, message-chain (F .run) i j (node H) (node K), not-both (ltb j (F .state .node i .p)) (F .state .node i .at));
-  one-entry = λ n C xs y z h ys none.
-      let F = D .follows n C xs in
+  one-entry = λ xs y z h ys none.
+      let F = D n C .follows xs in
       let t = E .after n (reached E n xs) (TakeRequest y z) in
-      let whole = D .follows n C (xs ++ (TakeRequest y z ∷ ys)) .run in
+      let whole = D n C .follows (xs ++ (TakeRequest y z ∷ ys)) .run in
       let Q = begun (run-after (F .run) (rw (accepted-next E n opened xs (TakeRequest y z) ys h) at whole)) in
       omega (arith, entries-words E n y t ys, overtaking y z (F .run) (Q .0) (Q .1) (sym (entries-words E n z t ys) ∙ none));
 }

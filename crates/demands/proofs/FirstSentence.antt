@@ -7,7 +7,7 @@ use Prim.Native.Nat.{ℕ}
 use Rattle.station.specs.declared.Station.{Station}
 use Rattle.station.specs.declared.Step.{Step}
 use Rattle.table.specs.Table.{after}
-use Rattle.demands.specs.Demands.{Engine, ours, tableAfter, reached, OneHolder}
+use Rattle.demands.specs.Demands.{Engine, ours, tableAfter, reached, Count, OneHolder}
 use Rattle.demands.specs.Useless.{refusesAll, saysAccepted, doesNothing, worksOnce, allIdle, PassFirstSentence}
 use Rattle.demands.proofs.Lists.{after-append}
 use Rattle.demands.proofs.Demand3.{demand-3}
@@ -37,20 +37,20 @@ module _ (E : Engine) (S : StepsOrKeeps E) (n : ℕ) where
   stays-ours t [] o = o
   stays-ours t (x ∷ xs) o = stays-ours (E .after n t x) xs (one-more t x o)
 
-passes : (E : Engine) → StepsOrKeeps E → OneHolder E
+passes : (n : ℕ) → Count n → (E : Engine) → StepsOrKeeps E → OneHolder E n
 unfolding tableAfter
-passes E S n C xs i j H K h k =
+passes n C E S xs i j H K h k =
     let o = stays-ours E S n _ xs (record { steps = []; same = refl }) in
-    demand-3 .one-holder n C (o .steps) i j H K (rw (o .same) at h) (rw (o .same) at k)
+    demand-3 n C .one-holder (o .steps) i j H K (rw (o .same) at h) (rw (o .same) at k)
 
 either : (b : Bool) (t u : List Station) → (cond b t u ≡ t) ⊎ (cond b t u ≡ u)
 either true t u = inl refl
 either false t u = inr refl
 
-pub pass-first-sentence : PassFirstSentence
-pass-first-sentence = record {
-  refuses-all = passes refusesAll (λ n t x. inr refl);
-  says-accepted = passes saysAccepted (λ n t x. inr refl);
-  does-nothing = passes doesNothing (λ n t x. inr refl);
-  works-once = passes worksOnce (λ n t x. either (allIdle t) (after n t x) t);
+pub pass-first-sentence : (n : ℕ) → Count n → PassFirstSentence n
+pass-first-sentence n C = record {
+  refuses-all = passes n C refusesAll (λ n t x. inr refl);
+  says-accepted = passes n C saysAccepted (λ n t x. inr refl);
+  does-nothing = passes n C doesNothing (λ n t x. inr refl);
+  works-once = passes n C worksOnce (λ n t x. either (allIdle t) (after n t x) t);
 }

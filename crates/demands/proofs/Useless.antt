@@ -25,24 +25,24 @@ asks = move refl (move refl (move refl stop))
 -- takes-accepted: the program can take Ask 1 at the start
 refuses-all : Demand2 refusesAll → ⊥
 unfolding acceptedOf words
-refuses-all D = absurd (omega (arith, D .takes-accepted 2 two [] initial stop (Ask 1) (record { next = asked; run = asks; number = omega arith })))
+refuses-all D = absurd (omega (arith, D 2 two .takes-accepted [] initial stop (Ask 1) (record { next = asked; run = asks; number = omega arith })))
 
 -- accepted-takes: the program cannot take Enter 1 at the start
 says-accepted : Demand2 saysAccepted → ⊥
 unfolding acceptedOf words can
-says-accepted D = false≢true (begun (D .accepted-takes 2 two [] initial stop (Enter 1) refl .run) .0)
+says-accepted D = false≢true (begun (D 2 two .accepted-takes [] initial stop (Enter 1) refl .run) .0)
 
 -- lands: after Ask 1 the program's node 1 sends, and the table has station 1 in Idle
 does-nothing : Demand2 doesNothing → ⊥
 unfolding computed can does put
 does-nothing D =
-    let shown = D .lands 2 two [] initial stop (Ask 1) refl asked asks .heads 1 (record { low = omega arith; high = omega arith }) in
+    let shown = D 2 two .lands [] initial stop (Ask 1) refl asked asks .heads 1 (record { low = omega arith; high = omega arith }) in
     absurd (omega (arith, ap (λ (h : Head). h .place) shown))
 
 -- accepted-takes: after Ask 1 the program cannot take it again
 works-once : Demand2 worksOnce → ⊥
 unfolding computed can does put allIdle
-works-once D = false≢true (begun (D .accepted-takes 2 two (Ask 1 ∷ []) asked asks (Ask 1) refl .run) .0)
+works-once D = false≢true (begun (D 2 two .accepted-takes (Ask 1 ∷ []) asked asks (Ask 1) refl .run) .0)
 
 pub shuts-out : ShutsOut
 shuts-out = record { refuses-all = refuses-all; says-accepted = says-accepted; does-nothing = does-nothing; works-once = works-once }

@@ -15,6 +15,7 @@ use Rattle.table.specs.Table.{headIn, cellsIn, opened, wellFormed, answer, afte
 use Rattle.figure1.specs.Figure1.{Location, m1, m2, m31, m32, m4, m5, m6, m71, m72, Node, State, initial, Label, M, q1, r1, does, Run}
 
 -- ---- an engine, and what it makes of a list of offered steps
+-- an engine is what it answers to a step and what it leaves, for any count and table
 pub record Engine : Type 0 where
   pub answer : ℕ → List Station → Step → ℕ
   pub after : ℕ → List Station → Step → List Station
@@ -23,6 +24,7 @@ pub record Engine : Type 0 where
 abbrev pub ours : Engine
 ours = record { answer = answer; after = after }
 
+-- 01, code 0: "accepted"
 abbrev pub accepts : Engine → ℕ → List Station → Step → Bool
 accepts E n t x = eqb (E .answer n t x) ACCEPTED
 
@@ -31,6 +33,7 @@ unfoldable pub tableAfter : Engine → ℕ → List Station → List Step → Li
 tableAfter E n t [] = t
 tableAfter E n t (x ∷ xs) = tableAfter E n (E .after n t x) xs
 
+-- "Open a network .. and offer any list of steps, refused ones among them"
 abbrev pub reached : Engine → ℕ → List Step → List Station
 reached E n xs = tableAfter E n opened xs
 
@@ -50,6 +53,7 @@ word (Give s) = M m72 s ∷ M m71 s ∷ []
 word (TakeRequest s t) = q1 s t ∷ []
 word (TakeAnswer s t) = r1 s t ∷ []
 
+-- the transitions of a list of steps, one step after the other
 unfoldable pub words : List Step → List Label
 words [] = []
 words (x ∷ xs) = word x ++ words xs
@@ -68,6 +72,7 @@ stepAt (M m72 s) = Give s ∷ []
 stepAt (q1 s t) = TakeRequest s t ∷ []
 stepAt (r1 s u) = TakeAnswer s u ∷ []
 
+-- the steps of a list of transitions
 unfoldable pub stepsOf : List Label → List Step
 stepsOf [] = []
 stepsOf (l ∷ ls) = stepAt l ++ stepsOf ls
@@ -77,6 +82,7 @@ stepsOf (l ∷ ls) = stepAt l ++ stepsOf ls
 abbrev pub inLoop : ℕ → Node → ℕ → ℕ → ℕ
 inLoop n a looping past = cond (leb (a .p) n) looping past
 
+-- the place, by where M stands; past a loop's last turn it is the next place
 abbrev pub placeAt : ℕ → Location → Node → ℕ
 placeAt n m1 a = IDLE
 placeAt n m2 a = IDLE
@@ -88,6 +94,7 @@ placeAt n m6 a = HOLDING
 placeAt n m71 a = inLoop n a GIVING IDLE
 placeAt n m72 a = GIVING
 
+-- p, "1 to N in Sending and Giving and 1 elsewhere"
 abbrev pub nextAt : ℕ → Location → Node → ℕ
 nextAt n m1 a = 1
 nextAt n m2 a = 1
@@ -99,6 +106,7 @@ nextAt n m6 a = 1
 nextAt n m71 a = inLoop n a (a .p) 1
 nextAt n m72 a = a .p
 
+-- 01, "The table": place, own number (osn), highest seen (hsn), next peer (p), answers due (c)
 abbrev pub headShown : ℕ → Node → Head
 headShown n a = record { place = placeAt n (a .at) a; own = a .osn; high = a .hsn; next = nextAt n (a .at) a; due = a .c }
 
@@ -106,6 +114,7 @@ headShown n a = record { place = placeAt n (a .at) a; own = a .osn; high = a .hs
 abbrev pub requestQueue : ℕ → List ℕ
 requestQueue request = cond (eqb request 0) [] (request ∷ [])
 
+-- "an answer under way from that peer (yes or no)"; an answer is the paper's 1
 abbrev pub answerQueue : Bool → List ℕ
 answerQueue answer = cond answer (1 ∷ []) []
 
@@ -154,34 +163,45 @@ pub record ShowsRun (n : ℕ) (ls : List Label) (t : List Station) : Type 0 wher
   pub run : Run n initial ls state
   pub shows : Shows n t state
 
+-- "a network of 2 to 32 stations"
 pub record Count (n : ℕ) : Type 0 where
   pub low : 2 ≤ n
   pub high : n ≤ 32
 
-pub record Demand2 (E : Engine) : Type 0 where
-  -- "the state afterwards is that program's state": the table reached shows what the program reaches by just the accepted steps
-  pub follows : (n : ℕ) → Count n → (xs : List Step) → ShowsRun n (words (acceptedOf E n opened xs)) (reached E n xs)
+-- the program is in the state σ after just the accepted ones of the offered steps xs
+abbrev pub Led : Engine → ℕ → List Step → State → Type 0
+Led E n xs σ = Run n initial (words (acceptedOf E n opened xs)) σ
+
+-- demand 2 for the count n, sentence by sentence
+pub record Demand2At (E : Engine) (n : ℕ) : Type 0 where
+  -- "it does what the program .. does": the table reached shows what the program reaches by just the accepted steps
+  pub follows : (xs : List Step) → ShowsRun n (words (acceptedOf E n opened xs)) (reached E n xs)
   -- "A step is accepted exactly when that program can take it and a number is left"
-  pub accepted-takes : (n : ℕ) → Count n → (xs : List Step) (σ : State) → Run n initial (words (acceptedOf E n opened xs)) σ → (x : Step)
-      → E .answer n (reached E n xs) x ≡ ACCEPTED → Takes n σ x
-  pub takes-accepted : (n : ℕ) → Count n → (xs : List Step) (σ : State) → Run n initial (words (acceptedOf E n opened xs)) σ → (x : Step)
-      → Takes n σ x → E .answer n (reached E n xs) x ≡ ACCEPTED
-  pub lands : (n : ℕ) → Count n → (xs : List Step) (σ : State) → Run n initial (words (acceptedOf E n opened xs)) σ → (x : Step)
-      → E .answer n (reached E n xs) x ≡ ACCEPTED → (τ : State) → Run n σ (word x) τ → Shows n (E .after n (reached E n xs) x) τ
+  pub accepted-takes : (xs : List Step) (σ : State) → Led E n xs σ → (x : Step) → E .answer n (reached E n xs) x ≡ ACCEPTED → Takes n σ x
+  pub takes-accepted : (xs : List Step) (σ : State) → Led E n xs σ → (x : Step) → Takes n σ x → E .answer n (reached E n xs) x ≡ ACCEPTED
+  -- "and the state afterwards is that program's state"
+  pub lands : (xs : List Step) (σ : State) → Led E n xs σ → (x : Step) → E .answer n (reached E n xs) x ≡ ACCEPTED
+      → (τ : State) → Run n σ (word x) τ → Shows n (E .after n (reached E n xs) x) τ
   -- every run of the program, in any interleaving, that never asks beyond 65,535 is matched by accepted steps
-  pub matched : (n : ℕ) → Count n → (ls : List Label) (σ : State) → Run n initial ls σ → NumbersLeft n initial ls
+  pub matched : (ls : List Label) (σ : State) → Run n initial ls σ → NumbersLeft n initial ls
       → (acceptedOf E n opened (stepsOf ls) ≡ stepsOf ls) × Shows n (reached E n (stepsOf ls)) σ
   -- "Its wires are queues without bound; ours have one slot each, and that this is enough .. is part of demand 2"
-  pub never-2-or-8 : (n : ℕ) → Count n → (xs : List Step) (x : Step)
+  pub never-2-or-8 : (xs : List Step) (x : Step)
       → (E .answer n (reached E n xs) x ≢ NOT_WELL_FORMED) × (E .answer n (reached E n xs) x ≢ AT_ODDS)
-  pub one-slot : (n : ℕ) → Count n → (ls : List Label) (σ : State) → Run n initial ls σ → (s t : ℕ) → Numbered n s → Numbered n t
+  pub one-slot : (ls : List Label) (σ : State) → Run n initial ls σ → (s t : ℕ) → Numbered n s → Numbered n t
       → (length (σ .chq s t) ≤ 1) × (length (σ .chp s t) ≤ 1)
 
+-- demand 2: for every count
+abbrev pub Demand2 : Engine → Type 0
+Demand2 E = (n : ℕ) → Count n → Demand2At E n
+
 -- ---- demand 3
+-- a test as a number
 abbrev pub bit : Bool → ℕ
 bit true = 1
 bit false = 0
 
+-- Enter y, 01's step 2
 abbrev pub enters : ℕ → Step → Bool
 enters y (Ask s) = false
 enters y (Send s) = false
@@ -202,16 +222,21 @@ underWay t i j =
     bit (not (eqb (cellsIn t (j - 1) (i - 1) .request) 0)) + bit (cellsIn t (j - 1) (i - 1) .mark) + bit (cellsIn t (i - 1) (j - 1) .answer)
 
 -- "at most one station holds the turn"
-abbrev pub OneHolder : Engine → Type 0
-OneHolder E =
-    (n : ℕ) → Count n → (xs : List Step) (i j : ℕ) → Numbered n i → Numbered n j
+abbrev pub OneHolder : Engine → ℕ → Type 0
+OneHolder E n =
+    (xs : List Step) (i j : ℕ) → Numbered n i → Numbered n j
     → headIn (reached E n xs) (i - 1) .place ≡ HOLDING → headIn (reached E n xs) (j - 1) .place ≡ HOLDING → i ≡ j
 
-pub record Demand3 (E : Engine) : Type 0 where
-  pub one-holder : OneHolder E
+-- demand 3 for the count n, sentence by sentence
+pub record Demand3At (E : Engine) (n : ℕ) : Type 0 where
+  pub one-holder : OneHolder E n
   -- "the first's request under way, its mark at the second and the second's answer under way come to one at most"
-  pub one-errand : (n : ℕ) → Count n → (xs : List Step) (i j : ℕ) → Numbered n i → Numbered n j → underWay (reached E n xs) i j ≤ 1
+  pub one-errand : (xs : List Step) (i j : ℕ) → Numbered n i → Numbered n j → underWay (reached E n xs) i j ≤ 1
   -- "Once Y has taken in Z's request of a round, Y enters at most once before Z enters in that round"
-  pub one-entry : (n : ℕ) → Count n → (xs : List Step) (y z : ℕ) → E .answer n (reached E n xs) (TakeRequest y z) ≡ ACCEPTED → (ys : List Step)
+  pub one-entry : (xs : List Step) (y z : ℕ) → E .answer n (reached E n xs) (TakeRequest y z) ≡ ACCEPTED → (ys : List Step)
       → entries E n z (E .after n (reached E n xs) (TakeRequest y z)) ys ≡ 0
       → entries E n y (E .after n (reached E n xs) (TakeRequest y z)) ys ≤ 1
+
+-- demand 3: for every count
+abbrev pub Demand3 : Engine → Type 0
+Demand3 E = (n : ℕ) → Count n → Demand3At E n

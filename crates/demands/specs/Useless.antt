@@ -1,6 +1,7 @@
 -- The four useless engines of 01, "Contracts that admit one outcome", and that demand 2 shuts each out.
 use mathlib.Core.Bool.{Bool, true, cond, _&&_}
 use mathlib.Core.List.{List, [], _∷_}
+use Prim.Native.Nat.{ℕ}
 use lib.Dec.{eqb}
 use Rattle.station.specs.declared.Station.{Station}
 use Rattle.station.specs.Names.{IDLE, ACCEPTED, WRONG_PLACE}
@@ -39,8 +40,8 @@ pub record ShutsOut : Type 0 where
   pub works-once : Demand2 worksOnce → ⊥
 
 -- "Each passes demand 3's first sentence"
-pub record PassFirstSentence : Type 0 where
-  pub refuses-all : OneHolder refusesAll
-  pub says-accepted : OneHolder saysAccepted
-  pub does-nothing : OneHolder doesNothing
-  pub works-once : OneHolder worksOnce
+pub record PassFirstSentence (n : ℕ) : Type 0 where
+  pub refuses-all : OneHolder refusesAll n
+  pub says-accepted : OneHolder saysAccepted n
+  pub does-nothing : OneHolder doesNothing n
+  pub works-once : OneHolder worksOnce n

@@ -41,9 +41,11 @@ pub data Label : Type 0 where
   r1 : ℕ → ℕ → Label
 
 -- ---- how a state is written to
+-- x[s] := v
 unfoldable pub put : {A : Type 0} → (ℕ → A) → ℕ → A → ℕ → A
 put f s v k = cond (eqb k s) v (f k)
 
+-- x[s, t] := v
 unfoldable pub put₂ : {A : Type 0} → (ℕ → ℕ → A) → ℕ → ℕ → A → ℕ → ℕ → A
 put₂ f s t v i j = cond (eqb i s && eqb j t) v (f i j)
 
@@ -56,10 +58,12 @@ abbrev pub first : List ℕ → ℕ
 first [] = 0
 first (x ∷ q) = x
 
+-- what stays in the channel
 abbrev pub others : List ℕ → List ℕ
 others [] = []
 others (x ∷ q) = q
 
+-- the channels after "ch[s, t] ⇒ x"
 abbrev pub receive : (ℕ → ℕ → List ℕ) → ℕ → ℕ → ℕ → ℕ → List ℕ
 receive ch s t = put₂ ch s t (others (ch s t))
 
@@ -97,6 +101,7 @@ abbrev pub grants : ℕ → ℕ → ℕ → Node → Bool
 grants s t rq a = (ltb rq (a .osn) || (eqb rq (a .osn) && ltb t s)) || not (a .rcs)
 
 -- ---- when a transition can be taken
+-- the labels as numbers, to compare them by
 abbrev pub number : Location → ℕ
 number m1 = 1
 number m2 = 2
@@ -112,6 +117,7 @@ number m72 = 72
 abbrev pub isNode : ℕ → ℕ → Bool
 isNode N s = leb 1 s && leb s N
 
+-- a message is there to receive
 abbrev pub some : List ℕ → Bool
 some [] = false
 some (x ∷ q) = true
@@ -128,6 +134,7 @@ passes m6 a = true
 passes m71 a = true
 passes m72 a = true
 
+-- M at its label and not waiting; q1 and r1 with a message in their channel
 unfoldable pub can : ℕ → State → Label → Bool
 can N σ (M l s) = isNode N s && (eqb (number (σ .node s .at)) (number l) && passes l (σ .node s))
 can N σ (q1 s t) = isNode N s && (isNode N t && some (σ .chq t s))
@@ -185,12 +192,14 @@ judged s t rq σ =
       chp = σ .chp;
     })
 
+-- the state after a transition
 unfoldable pub does : ℕ → State → Label → State
 does N σ (M l s) = record { node = put (σ .node) s (main N s l (σ .node s)); chq = requests s l σ; chp = replies s l σ }
 does N σ (q1 s t) = judged s t (first (σ .chq t s)) σ
 does N σ (r1 s u) = record { node = put (σ .node) s (replied (σ .node s)); chq = σ .chq; chp = receive (σ .chp) u s }
 
 -- ---- runs: any interleaving of the transitions
+-- "a concurrent execution of all the nodes": from a state by a list of transitions to a state
 pub data Run (N : ℕ) : State → List Label → State → Type 0 where
   stop : {σ : State} → Run N σ [] σ
   move : {σ τ : State} {l : Label} {ls : List Label} → can N σ l ≡ true → Run N (does N σ l) ls τ → Run N σ (l ∷ ls) τ

@@ -24,6 +24,7 @@ byteOf high low =
 unfoldable pub hexOf : ℕ → ℕ
 hexOf value = cond (ltb (value % 16) 10) (value % 16 + 48) (value % 16 + 65 - 10)
 
+-- "two digits a field": a byte's two characters, the high one first
 unfoldable pub pairOf : ℕ → Pair
 pairOf value = record { high = hexOf (value / 16); low = hexOf value }
 

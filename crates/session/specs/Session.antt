@@ -16,13 +16,15 @@ use Rattle.frames.specs.Frames.{pairOf, frameAt}
 use Rattle.session.specs.declared.Opened.{Opened}
 use Rattle.session.specs.declared.Turned.{Turned}
 
--- 01, codes 9 and 10: "bad frame (program only)"; "input above 65,536 bytes (program only)"
+-- 01, code 9: "bad frame (program only)"
 abbrev pub BAD_FRAME : ℕ
 BAD_FRAME = 9
 
+-- 01, code 10: "input above 65,536 bytes (program only)"
 abbrev pub TOO_LONG : ℕ
 TOO_LONG = 10
 
+-- 01, code 10: the limit
 abbrev pub INPUT_LIMIT : ℕ
 INPUT_LIMIT = 65536
 
@@ -62,6 +64,7 @@ badLine = lineOf BAD_FRAME 0 0 0
 unfoldable pub linesIn : ℕ → ℕ
 linesIn len = (len + 6) / 7
 
+-- "one frame a line": the frames of so many lines from line k on, lines counted from 0
 unfoldable pub framesFrom : ℕ → ℕ → List ℕ → List Frame
 framesFrom zero k s = []
 framesFrom (suc left) k s = frameAt s (7 * k) ∷ framesFrom left (k + 1) s

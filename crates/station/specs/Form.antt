@@ -10,10 +10,11 @@ use Rattle.station.specs.declared.Station.{Station}
 use Rattle.station.specs.Names.{IDLE, SENDING, WAITING, GIVING, STATIONS}
 use Rattle.station.specs.Rules.{isStation, isAsking}
 
--- 01, "The table": "Opening writes all 32 records: Idle, p = 1, all else 0 and empty"
+-- 01, "The table": "all else 0 and empty"
 abbrev pub newCells : Cells
 newCells = record { request = 0; answer = false; mark = false }
 
+-- 01, "The table": "Opening writes .. Idle, p = 1, all else 0 and empty"
 abbrev pub newStation : Station
 newStation = record {
   head = record { place = IDLE; own = 0; high = 0; next = 1; due = 0 };
@@ -49,6 +50,7 @@ emptyCells cells = not (cells .answer) && (not (cells .mark) && eqb (cells .requ
 unfoldable pub inUse : ℕ → ℕ → ℕ → Bool
 inUse n s t = leb s n && (leb t n && not (eqb s t))
 
+-- a cell that is not in use is empty and unmarked
 unfoldable pub cellOk : ℕ → ℕ → ℕ → Cells → Bool
 cellOk n s t cells = cond (inUse n s t) true (emptyCells cells)
 

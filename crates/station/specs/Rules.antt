@@ -86,17 +86,20 @@ onward n head then = cond (ltb (head .next) n) (placed head (head .place) (head 
 unfoldable pub larger : ℕ → ℕ → ℕ
 larger a b = cond (ltb a b) b a
 
+-- the head with its highest seen so raised, and all else as it was
 unfoldable pub raised : Head → ℕ → Head
 raised head request =
     record { place = head .place; own = head .own; high = larger (head .high) request; next = head .next; due = head .due }
 
--- cells with another request, another answer, another mark
+-- cells with another request
 abbrev pub withRequest : Cells → ℕ → Cells
 withRequest cells request = record { request = request; answer = cells .answer; mark = cells .mark }
 
+-- cells with another answer
 abbrev pub withAnswer : Cells → Bool → Cells
 withAnswer cells answer = record { request = cells .request; answer = answer; mark = cells .mark }
 
+-- cells with another mark
 abbrev pub withMark : Cells → Bool → Cells
 withMark cells mark = record { request = cells .request; answer = cells .answer; mark = mark }
 
@@ -173,6 +176,7 @@ takeAnswerRule head mine theirs =
     theirs))
     (refused EMPTY_WIRE head mine theirs)
 
+-- 01, "A step is one of seven": each by its row
 unfoldable pub stepRule : ℕ → Step → Head → Cells → Cells → Outcome
 stepRule n (Ask s) = askRule n
 stepRule n (Send s) = sendRule n s
@@ -182,7 +186,7 @@ stepRule n (Give s) = giveRule n
 stepRule n (TakeRequest s t) = takeRequestRule s t
 stepRule n (TakeAnswer s t) = takeAnswerRule
 
--- 01, "Codes": each step by its row; with a count that no table has, code 2
+-- 01, code 2: with a count that no well-formed table has, the step is refused
 unfoldable pub outcome : ℕ → Step → Head → Cells → Cells → Outcome
 outcome n step head mine theirs =
     cond (countOk n) (stepRule n step head mine theirs) (refused NOT_WELL_FORMED head mine theirs)

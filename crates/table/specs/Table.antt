@@ -18,20 +18,23 @@ use Rattle.station.specs.Form.{newCells, newStation, recordOk}
 abbrev pub noHead : Head
 noHead = record { place = 0; own = 0; high = 0; next = 0; due = 0 }
 
+-- the same for a whole record
 abbrev pub noStation : Station
 noStation = record { head = noHead; cells = [] }
 
--- the head of the record at index i, and its cells for the peer at index j
+-- the head of the record at index i
 abbrev pub headIn : List Station → ℕ → Head
 headIn t i = getD t i noStation .head
 
+-- its cells for the peer at index j
 abbrev pub cellsIn : List Station → ℕ → ℕ → Cells
 cellsIn t i j = getD (getD t i noStation .cells) j newCells
 
--- the table with another head there, with other cells there
+-- the table with another head at i, and all else as it was
 abbrev pub putHead : List Station → ℕ → Head → List Station
 putHead t i head = set t i (record { head = head; cells = getD t i noStation .cells })
 
+-- the table with other cells of i for j, and all else as it was
 abbrev pub putCells : List Station → ℕ → ℕ → Cells → List Station
 putCells t i j cells = set t i (record { head = headIn t i; cells = set (getD t i noStation .cells) j cells })
 
@@ -48,6 +51,7 @@ opened = replicate STATIONS newStation
 unfoldable pub openCode : ℕ → ℕ → ℕ
 openCode len n = cond (countOk n) (cond (eqb len STATIONS) ACCEPTED NOT_WELL_FORMED) BAD_COUNT
 
+-- what opening answers over a table
 abbrev pub openAnswer : ℕ → List Station → ℕ
 openAnswer n t = openCode (length t) n
 
@@ -56,25 +60,29 @@ unfoldable pub openAfter : ℕ → List Station → List Station
 openAfter n t = cond (eqb (openAnswer n t) ACCEPTED) opened t
 
 -- ---- the form of a table
--- 01, "The table": "A table is well formed when it has 32 records, N is 2 to 32", and each record has its form
+-- "for each station up to N", and for the records above: each record, that of station s first, has its form
 unfoldable pub recordsOk : ℕ → ℕ → List Station → Bool
 recordsOk n s [] = true
 recordsOk n s (r ∷ rs) = recordOk n s r && recordsOk n (s + 1) rs
 
+-- "it has 32 records, N is 2 to 32"
 unfoldable pub sized : ℕ → ℕ → Bool
 sized len n = eqb len STATIONS && countOk n
 
+-- 01, "The table": "A table is well formed when .."
 unfoldable pub wellFormed : ℕ → List Station → Bool
 wellFormed n t = sized (length t) n && recordsOk n 1 t
 
 -- ---- a step
--- the indices of the station that a step names and of its peer
+-- the index of the station that a step names
 abbrev pub seat : Step → ℕ
 seat x = indexOf (namedBy x)
 
+-- the index of the peer, by the next peer p of the station
 abbrev pub seatOf : Step → ℕ → ℕ
 seatOf x next = indexOf (peerOf x next)
 
+-- the same, read out of the table
 abbrev pub peerSeat : List Station → Step → ℕ
 peerSeat t x = seatOf x (headIn t (seat x) .next)
 
@@ -86,10 +94,11 @@ outcomeIn n t x = outcome n x (headIn t (seat x)) (cellsIn t (seat x) (peerSeat 
 abbrev pub landed : Outcome → List Station → ℕ → ℕ → List Station
 landed out t i j = putCells (putCells (putHead t i (out .head)) i j (out .mine)) j i (out .theirs)
 
--- 01, "Codes": "at a step 2, 3, 4, then 5, 6 or 7, then 8. The first that applies is returned"
+-- 01, "Codes": "at a step 2, 3", before those of the step's row
 unfoldable pub firstRefusal : Bool → ℕ → Step → ℕ
 firstRefusal form n x = cond form (cond (stationsOk n x) ACCEPTED NO_SUCH_STATION) NOT_WELL_FORMED
 
+-- 01, "Codes": "The first that applies is returned": 2 and 3, then those of the step's row
 unfoldable pub answer : ℕ → List Station → Step → ℕ
 answer n t x =
     cond (eqb (firstRefusal (wellFormed n t) n x) ACCEPTED) (outcomeIn n t x .code) (firstRefusal (wellFormed n t) n x)
@@ -104,5 +113,6 @@ unfoldable pub holderFrom : ℕ → List Station → ℕ
 holderFrom s [] = 0
 holderFrom s (r ∷ rs) = cond (eqb (r .head .place) HOLDING) s (holderFrom (s + 1) rs)
 
+-- the records count from station 1
 abbrev pub holder : List Station → ℕ
 holder t = holderFrom 1 t
