@@ -1,6 +1,7 @@
 // Openings and steps of tables by value, fresh ones and doctored ones. A line has the digits of the bench's: code, place, due, holder.
 use station::Cells;
 use station::Head;
+use station::STATIONS;
 use station::Station;
 use station::Step;
 
@@ -48,7 +49,7 @@ pub fn open_with(n: usize) {
 }
 
 // One step in a network of two, with the station's own number behind its line.
-fn take(table: [Station; 32], step: Step) -> [Station; 32] {
+fn take(table: [Station; STATIONS], step: Step) -> [Station; STATIONS] {
     let turned = session::turn(table, 2, step);
     let head = turned.head;
     show_step(step);
@@ -59,13 +60,13 @@ fn take(table: [Station; 32], step: Step) -> [Station; 32] {
 }
 
 // A station that asked sends to the end.
-fn send_all(table: [Station; 32], s: usize) -> [Station; 32] {
+fn send_all(table: [Station; STATIONS], s: usize) -> [Station; STATIONS] {
     let sent = take(table, Step::Send(s));
     take(sent, Step::Send(s))
 }
 
 // Station 1 is answered by 2, has its turn and gives it up, and 2's own request stays under way.
-fn pass_by(table: [Station; 32]) -> [Station; 32] {
+fn pass_by(table: [Station; STATIONS]) -> [Station; STATIONS] {
     let answered = take(table, Step::TakeRequest(2, 1));
     let free = take(answered, Step::TakeAnswer(1, 2));
     let held = take(free, Step::Enter(1));
@@ -75,7 +76,7 @@ fn pass_by(table: [Station; 32]) -> [Station; 32] {
 }
 
 // Station 1 asks again, and is answered again.
-fn ask_again(table: [Station; 32]) -> [Station; 32] {
+fn ask_again(table: [Station; STATIONS]) -> [Station; STATIONS] {
     pass_by(send_all(take(table, Step::Ask(1)), 1))
 }
 
@@ -89,7 +90,7 @@ pub fn repeat_the_tie() {
 }
 
 // A table of two stations: the head of station 1, its cells for 2, and 2's cells for 1.
-fn doctored(head: Head, mine: Cells, theirs: Cells) -> [Station; 32] {
+fn doctored(head: Head, mine: Cells, theirs: Cells) -> [Station; STATIONS] {
     let opened = session::open_table(2);
     let mut table = opened.table;
     let first = table[0];

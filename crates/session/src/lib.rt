@@ -3,6 +3,7 @@ use frames::Frame;
 use station::ACCEPTED;
 use station::Head;
 use station::NO_SUCH_STATION;
+use station::STATIONS;
 use station::Station;
 use station::Step;
 ghost use mathlib.Core.Path.{_≡_};
@@ -26,7 +27,7 @@ pub const OUTPUT_MOST: usize = 84267;
 // A table by value, and the code of its opening.
 pub struct Opened {
     pub code: u8,
-    pub table: [Station; 32],
+    pub table: [Station; STATIONS],
 }
 
 // A table by value after a step, and what a line says of the step.
@@ -34,14 +35,14 @@ pub struct Turned {
     pub code: u8,
     pub head: Head,
     pub holder: usize,
-    pub table: [Station; 32],
+    pub table: [Station; STATIONS],
 }
 
 // Opens a table of its own, so that a caller needs none to lend.
 pub fn open_table(n: usize) -> Opened
     ensures { λ r. ⌜ r ≡ openedFor n ⌝ }
 {
-    let mut table = [station::new_station(); 32];
+    let mut table = [station::new_station(); STATIONS];
     let code = table::open(&mut table, n);
     Opened {
         code: code,
@@ -50,7 +51,7 @@ pub fn open_table(n: usize) -> Opened
 }
 
 // One step of a table that comes by value and goes back by value: it is lent to `table::step`, and then read.
-pub fn turn(table: [Station; 32], n: usize, step: Step) -> Turned
+pub fn turn(table: [Station; STATIONS], n: usize, step: Step) -> Turned
     ensures { λ r. ⌜ r ≡ turnOf table n step ⌝ }
 {
     let mut lent = table;
@@ -117,7 +118,7 @@ pub fn room_for(len: usize) -> usize
 }
 
 // The lines after the first, written behind it. Gives the index past the last.
-fn put_turns(input: &[u8], n: usize, opened: [Station; 32], output: &mut [u8]) -> usize
+fn put_turns(input: &[u8], n: usize, opened: [Station; STATIONS], output: &mut [u8]) -> usize
     requires { ⌜ (1 ≤ length (now input)) × (length (now input) ≤ 65536) × (9 * linesIn (length (now input)) ≤ length (now output)) ⌝ }
     ensures { λ r. ⌜ LinesWritten (now (input .entry)) n opened (now (output .entry)) (now (output .exit)) r ⌝ }
 {

@@ -28,7 +28,7 @@ pub fn new_station() -> Station
             request: 0,
             answer: false,
             mark: false,
-        }; 32],
+        }; STATIONS],
     }
 }
 

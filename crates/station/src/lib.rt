@@ -72,7 +72,7 @@ pub struct Cells {
 #[repr(C)]
 pub struct Station {
     pub head: Head,
-    pub cells: [Cells; 32],
+    pub cells: [Cells; STATIONS],
 }
 
 // What a step makes of the named station's head, its cells for the peer, and the peer's cells for it.
