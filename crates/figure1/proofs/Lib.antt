@@ -1,3 +1,4 @@
+-- What holds of the program of Figure 1, and what its proofs share.
 pub mod Claims
 pub mod Sums
 pub mod Invariant

@@ -1,1 +1,2 @@
+-- What a reader must believe: the program as printed.
 pub mod Figure1

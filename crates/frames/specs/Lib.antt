@@ -1,1 +1,2 @@
+-- What a reader must believe: what a line means.
 pub mod Frames

@@ -1,1 +1,2 @@
+-- What a reader must believe: what a run writes.
 pub mod Session
