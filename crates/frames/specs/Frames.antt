@@ -28,27 +28,28 @@ hexOf value = cond (ltb (value % 16) 10) (value % 16 + 48) (value % 16 + 65 - 10
 unfoldable pub pairOf : ℕ → Pair
 pairOf value = record { high = hexOf (value / 16); low = hexOf value }
 
--- "The first frame has kind F0, the count as station, other 00. Later frames have kind 00 to 06; other is 00 for kinds 00 to 04"
-unfoldable pub meaningOf : ℕ → ℕ → ℕ → Frame
-meaningOf kind s t =
-    cond (eqb kind 5) (frame.Move (TakeRequest s t))
-    (cond (eqb kind 6) (frame.Move (TakeAnswer s t))
-    (cond (eqb t 0)
+-- "The first frame has kind F0, the count as station"; kinds 00 to 04 are 01's steps 0 to 4
+unfoldable pub aloneOf : ℕ → ℕ → Frame
+aloneOf kind s =
+    cond (eqb kind 240) (frame.Open s)
     (cond (eqb kind 0) (frame.Move (Ask s))
     (cond (eqb kind 1) (frame.Move (Send s))
     (cond (eqb kind 2) (frame.Move (Enter s))
     (cond (eqb kind 3) (frame.Move (Leave s))
-    (cond (eqb kind 4) (frame.Move (Give s))
-    (cond (eqb kind 240) (frame.Open s)
-    frame.Bad))))))
-    frame.Bad))
+    (cond (eqb kind 4) (frame.Move (Give s)) frame.Bad)))))
 
--- "The three bytes are kind, station, other"
-unfoldable pub joined : Byte → Byte → Byte → Frame
-joined byte.Bad b c = frame.Bad
-joined (byte.Value k) byte.Bad c = frame.Bad
-joined (byte.Value k) (byte.Value s) byte.Bad = frame.Bad
-joined (byte.Value k) (byte.Value s) (byte.Value t) = meaningOf k s t
+-- kinds 05 and 06 are the takes, with other as the peer; "other is 00 for kinds 00 to 04", and in the first frame
+unfoldable pub meaningOf : ℕ → ℕ → ℕ → Frame
+meaningOf kind station other =
+    cond (eqb kind 5) (frame.Move (TakeRequest station other))
+    (cond (eqb kind 6) (frame.Move (TakeAnswer station other)) (cond (eqb other 0) (aloneOf kind station) frame.Bad))
+
+-- "The three bytes are kind, station, other": a frame is bad where one of them is
+unfoldable pub ofBytes : Byte → Byte → Byte → Frame
+ofBytes (byte.Value kind) (byte.Value station) (byte.Value other) = meaningOf kind station other
+ofBytes (byte.Value kind) (byte.Value station) byte.Bad = frame.Bad
+ofBytes (byte.Value kind) byte.Bad other = frame.Bad
+ofBytes byte.Bad station other = frame.Bad
 
 -- "one frame a line: six characters .., then a line feed, the last line too": the frame whose line starts at an index
 unfoldable pub frameAt : List ℕ → ℕ → Frame
@@ -56,7 +57,7 @@ frameAt s at =
     cond (ltb (length s - at) 7)
     frame.Bad
     (cond (eqb (getD s (at + 6) 0) 10)
-    (joined
+    (ofBytes
     (byteOf (getD s at 0) (getD s (at + 1) 0))
     (byteOf (getD s (at + 2) 0) (getD s (at + 3) 0))
     (byteOf (getD s (at + 4) 0) (getD s (at + 5) 0)))

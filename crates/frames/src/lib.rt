@@ -1,7 +1,7 @@
 // Frames: one hexadecimal pair, one line of six characters and a line feed, and the step that it says.
 use station::Step;
 ghost use mathlib.Core.Path.{_≡_};
-ghost use Rattle.frames.specs.Frames.{digitOf, hexOf, byteOf, pairOf, meaningOf, frameAt};
+ghost use Rattle.frames.specs.Frames.{digitOf, hexOf, byteOf, pairOf, aloneOf, meaningOf, frameAt};
 
 // A frame's line: six characters and a line feed.
 pub const FRAME_BYTES: usize = 7;
@@ -82,20 +82,12 @@ pub fn pair_of(byte: u8) -> Pair
     }
 }
 
-// What the three bytes of a frame say.
-pub fn meaning_of(kind: u8, station: u8, other: u8) -> Frame
-    ensures { λ r. ⌜ r ≡ meaningOf kind station other ⌝ }
+// What a frame says whose other byte is 00.
+fn alone(kind: u8, s: usize) -> Frame
+    ensures { λ r. ⌜ r ≡ aloneOf kind s ⌝ }
 {
-    let s = station as usize;
-    let t = other as usize;
-    if kind == 5 {
-        return Frame::Move(Step::TakeRequest(s, t));
-    }
-    if kind == 6 {
-        return Frame::Move(Step::TakeAnswer(s, t));
-    }
-    if t != 0 {
-        return Frame::Bad;
+    if kind == OPEN {
+        return Frame::Open(s);
     }
     if kind == 0 {
         return Frame::Move(Step::Ask(s));
@@ -112,8 +104,23 @@ pub fn meaning_of(kind: u8, station: u8, other: u8) -> Frame
     if kind == 4 {
         return Frame::Move(Step::Give(s));
     }
-    if kind == OPEN {
-        return Frame::Open(s);
+    Frame::Bad
+}
+
+// What the three bytes of a frame say.
+pub fn meaning_of(kind: u8, station: u8, other: u8) -> Frame
+    ensures { λ r. ⌜ r ≡ meaningOf kind station other ⌝ }
+{
+    let s = station as usize;
+    let t = other as usize;
+    if kind == 5 {
+        return Frame::Move(Step::TakeRequest(s, t));
+    }
+    if kind == 6 {
+        return Frame::Move(Step::TakeAnswer(s, t));
+    }
+    if t == 0 {
+        return alone(kind, s);
     }
     Frame::Bad
 }

@@ -5,12 +5,12 @@ use native.Mathlib.Omega.{arith}
 use lib.ListN.{length}
 use borrow.Author.Needs.{needs}
 use borrow.Author.Tests.{lt-ltb, le-ltb, eq-eqb, ne-eqb}
-use Rattle.frames.specs.Frames.{frameAt, joined}
+use Rattle.frames.specs.Frames.{frameAt, ofBytes}
 use Rattle.frames.proofs.frame_at.Statement.{statement}
 use Rattle.frames.proofs.frame_at.Tie as tie
 
 returns : tie.Need-returns
-unfolding frameAt joined
+unfolding frameAt ofBytes
 returns c =
     let short : length (c .before .before .args .input .now) - c .before .before .args .at < 7 = omega arith in
     simp (lt-ltb _ _ short)
@@ -19,7 +19,7 @@ sub-if2 : tie.Need-sub-if2
 sub-if2 c = search needs
 
 returns-2 : tie.Need-returns-2
-unfolding frameAt joined
+unfolding frameAt ofBytes
 returns-2 c = simp (lt-ltb _ _ (c .if2 .taken))
 
 add-if3 : tie.Need-add-if3
@@ -29,7 +29,7 @@ shared-slice-read-if3 : tie.Need-shared-slice-read-if3
 shared-slice-read-if3 c = search needs
 
 returns-3 : tie.Need-returns-3
-unfolding frameAt joined
+unfolding frameAt ofBytes
 returns-3 c = simp (le-ltb _ _ (c .before .before .if2 .left), ne-eqb _ _ (c .if3 .taken))
 
 shared-slice-read-byte-of : tie.Need-shared-slice-read-byte-of
@@ -51,7 +51,7 @@ enum-told : tie.Need-enum-told
 enum-told c = search needs
 
 returns-4 : tie.Need-returns-4
-unfolding frameAt joined
+unfolding frameAt ofBytes
 returns-4 c =
     let at-if3 = c .before .before .before .before .before in
     let at-if2 = at-if3 .before .before in
@@ -83,7 +83,7 @@ enum-told-2 : tie.Need-enum-told-2
 enum-told-2 c = search needs
 
 returns-5 : tie.Need-returns-5
-unfolding frameAt joined
+unfolding frameAt ofBytes
 returns-5 c =
     let at-kind = c .before .before .before .before .before .before in
     let at-byte-of = at-kind .before .before in
@@ -118,7 +118,7 @@ enum-told-3 : tie.Need-enum-told-3
 enum-told-3 c = search needs
 
 returns-6 : tie.Need-returns-6
-unfolding frameAt joined
+unfolding frameAt ofBytes
 returns-6 c =
     let at-station = c .before .before .before .before .before .before in
     let at-byte-of2 = at-station .before .before in
@@ -138,7 +138,7 @@ meaning-of-requires : tie.Need-meaning-of-requires
 meaning-of-requires c κs = search needs
 
 returns-7 : tie.Need-returns-7
-unfolding frameAt joined
+unfolding frameAt ofBytes
 returns-7 c =
     let at-byte-of3 = c .before .before .before .before in
     let at-station = at-byte-of3 .before .before .before .before in

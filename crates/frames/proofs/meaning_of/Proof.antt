@@ -1,4 +1,5 @@
--- Proof of `meaning_of`: the kinds are tried one after another, and each return cites the tests on its way.
+-- Proof of `meaning_of`: the takes first, then what `alone` says of a kind with other 00.
+use borrow.Author.Needs.{needs}
 use borrow.Author.Tests.{eq-eqb, ne-eqb}
 use Rattle.frames.specs.Frames.{meaningOf}
 use Rattle.frames.proofs.meaning_of.Statement.{statement}
@@ -12,116 +13,22 @@ returns-2 : tie.Need-returns-2
 unfolding meaningOf
 returns-2 c = simp (ne-eqb _ _ (c .before .if1 .left), eq-eqb _ _ (c .if2 .taken))
 
+alone-requires : tie.Need-alone-requires
+alone-requires c κs = search needs
+
 returns-3 : tie.Need-returns-3
 unfolding meaningOf
 returns-3 c =
     simp (
-      ne-eqb _ _ (c .before .before .if1 .left),
-      ne-eqb _ _ (c .before .if2 .left),
-      ne-eqb _ _ (c .if3 .taken),
+      ne-eqb _ _ (c .before .before .before .if1 .left),
+      ne-eqb _ _ (c .before .before .if2 .left),
+      eq-eqb _ _ (c .before .if3 .taken),
+      c .alone .ensures,
     )
 
 returns-4 : tie.Need-returns-4
 unfolding meaningOf
-returns-4 c =
-    simp (
-      ne-eqb _ _ (c .before .before .before .if1 .left),
-      ne-eqb _ _ (c .before .before .if2 .left),
-      eq-eqb _ _ (c .before .if3 .left),
-      eq-eqb _ _ (c .if4 .taken),
-    )
-
-returns-5 : tie.Need-returns-5
-unfolding meaningOf
-returns-5 c =
-    simp (
-      ne-eqb _ _ (c .before .before .before .before .if1 .left),
-      ne-eqb _ _ (c .before .before .before .if2 .left),
-      eq-eqb _ _ (c .before .before .if3 .left),
-      ne-eqb _ _ (c .before .if4 .left),
-      eq-eqb _ _ (c .if5 .taken),
-    )
-
-returns-6 : tie.Need-returns-6
-unfolding meaningOf
-returns-6 c =
-    simp (
-      ne-eqb _ _ (c .before .before .before .before .before .if1 .left),
-      ne-eqb _ _ (c .before .before .before .before .if2 .left),
-      eq-eqb _ _ (c .before .before .before .if3 .left),
-      ne-eqb _ _ (c .before .before .if4 .left),
-      ne-eqb _ _ (c .before .if5 .left),
-      eq-eqb _ _ (c .if6 .taken),
-    )
-
-returns-7 : tie.Need-returns-7
-unfolding meaningOf
-returns-7 c =
-    simp (
-      ne-eqb _ _ (c .before .before .before .before .before .before .if1 .left),
-      ne-eqb _ _ (c .before .before .before .before .before .if2 .left),
-      eq-eqb _ _ (c .before .before .before .before .if3 .left),
-      ne-eqb _ _ (c .before .before .before .if4 .left),
-      ne-eqb _ _ (c .before .before .if5 .left),
-      ne-eqb _ _ (c .before .if6 .left),
-      eq-eqb _ _ (c .if7 .taken),
-    )
-
-returns-8 : tie.Need-returns-8
-unfolding meaningOf
-returns-8 c =
-    simp (
-      ne-eqb _ _ (c .before .before .before .before .before .before .before .if1 .left),
-      ne-eqb _ _ (c .before .before .before .before .before .before .if2 .left),
-      eq-eqb _ _ (c .before .before .before .before .before .if3 .left),
-      ne-eqb _ _ (c .before .before .before .before .if4 .left),
-      ne-eqb _ _ (c .before .before .before .if5 .left),
-      ne-eqb _ _ (c .before .before .if6 .left),
-      ne-eqb _ _ (c .before .if7 .left),
-      eq-eqb _ _ (c .if8 .taken),
-    )
-
-returns-9 : tie.Need-returns-9
-unfolding meaningOf
-returns-9 c =
-    simp (
-      ne-eqb _ _ (c .before .before .before .before .before .before .before .before .if1 .left),
-      ne-eqb _ _ (c .before .before .before .before .before .before .before .if2 .left),
-      eq-eqb _ _ (c .before .before .before .before .before .before .if3 .left),
-      ne-eqb _ _ (c .before .before .before .before .before .if4 .left),
-      ne-eqb _ _ (c .before .before .before .before .if5 .left),
-      ne-eqb _ _ (c .before .before .before .if6 .left),
-      ne-eqb _ _ (c .before .before .if7 .left),
-      ne-eqb _ _ (c .before .if8 .left),
-      eq-eqb _ _ (c .if9 .taken),
-    )
-
-returns-10 : tie.Need-returns-10
-unfolding meaningOf
-returns-10 c =
-    simp (
-      ne-eqb _ _ (c .before .before .before .before .before .before .before .before .if1 .left),
-      ne-eqb _ _ (c .before .before .before .before .before .before .before .if2 .left),
-      eq-eqb _ _ (c .before .before .before .before .before .before .if3 .left),
-      ne-eqb _ _ (c .before .before .before .before .before .if4 .left),
-      ne-eqb _ _ (c .before .before .before .before .if5 .left),
-      ne-eqb _ _ (c .before .before .before .if6 .left),
-      ne-eqb _ _ (c .before .before .if7 .left),
-      ne-eqb _ _ (c .before .if8 .left),
-      ne-eqb _ _ (c .if9 .left),
-    )
+returns-4 c = simp (ne-eqb _ _ (c .before .before .if1 .left), ne-eqb _ _ (c .before .if2 .left), ne-eqb _ _ (c .if3 .left))
 
 pub meaning-of-spec : {M : Type 1} → statement M
-meaning-of-spec =
-    tie.close
-    (tie.spec
-    returns
-    returns-2
-    returns-3
-    returns-4
-    returns-5
-    returns-6
-    returns-7
-    returns-8
-    returns-9
-    returns-10)
+meaning-of-spec = tie.close (tie.spec returns returns-2 alone-requires returns-3 returns-4)
