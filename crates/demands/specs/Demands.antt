@@ -176,10 +176,11 @@ Led E n xs σ = Run n initial (words (acceptedOf E n opened xs)) σ
 pub record Demand2At (E : Engine) (n : ℕ) : Type 0 where
   -- "it does what the program .. does": the table reached shows what the program reaches by just the accepted steps
   pub follows : (xs : List Step) → ShowsRun n (words (acceptedOf E n opened xs)) (reached E n xs)
-  -- "A step is accepted exactly when that program can take it and a number is left"
+  -- "A step is accepted exactly when that program can take it and a number is left": this way round it shuts out the engine that always says 0, and the one that works once and then says 0
   pub accepted-takes : (xs : List Step) (σ : State) → Led E n xs σ → (x : Step) → E .answer n (reached E n xs) x ≡ ACCEPTED → Takes n σ x
+  -- and this way round the engine that refuses everything
   pub takes-accepted : (xs : List Step) (σ : State) → Led E n xs σ → (x : Step) → Takes n σ x → E .answer n (reached E n xs) x ≡ ACCEPTED
-  -- "and the state afterwards is that program's state"
+  -- "and the state afterwards is that program's state": it shuts out the engine that answers and does nothing
   pub lands : (xs : List Step) (σ : State) → Led E n xs σ → (x : Step) → E .answer n (reached E n xs) x ≡ ACCEPTED
       → (τ : State) → Run n σ (word x) τ → Shows n (E .after n (reached E n xs) x) τ
   -- every run of the program, in any interleaving, that never asks beyond 65,535 is matched by accepted steps
@@ -227,7 +228,7 @@ OneHolder E n =
     (xs : List Step) (i j : ℕ) → Numbered n i → Numbered n j
     → headIn (reached E n xs) (i - 1) .place ≡ HOLDING → headIn (reached E n xs) (j - 1) .place ≡ HOLDING → i ≡ j
 
--- demand 3 for the count n, sentence by sentence
+-- demand 3 for the count n, sentence by sentence. An engine that does nothing meets it too: it is demand 2 that shuts such engines out (Useless.antt)
 pub record Demand3At (E : Engine) (n : ℕ) : Type 0 where
   pub one-holder : OneHolder E n
   -- "the first's request under way, its mark at the second and the second's answer under way come to one at most"
