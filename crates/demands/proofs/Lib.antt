@@ -17,7 +17,6 @@ pub mod Demand3
 pub mod Computed
 pub mod Cases
 pub mod Useless
-pub mod FirstSentence
 pub mod Rounds
 pub mod ShortRuns
 pub mod OneOutcome
