@@ -8,14 +8,14 @@ use borrow.Author.Tests.{ne-eqb}
 use Rattle.station.specs.declared.Station.{Station}
 use Rattle.station.specs.declared.Step.{Step}
 use Rattle.station.specs.Names.{ACCEPTED, NOT_WELL_FORMED, AT_ODDS}
+use Rattle.station.proofs.Laws.{Count, count-range}
 use Rattle.table.specs.Table.{opened, answer, after}
 use Rattle.figure1.specs.Figure1.{State, initial, Label, Run, stop}
+use Rattle.figure1.proofs.Reached.{counting}
 use Rattle.figure1.proofs.Slots.{one-message}
 use Rattle.figure1.proofs.Runs.{run-append, run-determined}
-use Rattle.demands.specs.Demands.{Count, ours, tableAfter, acceptedOf, reached, word, words, Takes, Demand2}
-use Rattle.demands.proofs.Stations.{node-of}
-use Rattle.demands.proofs.Mirrors.{Mirrors, opened-mirrors}
-use Rattle.demands.proofs.Form.{shows}
+use Rattle.demands.specs.Demands.{ours, tableAfter, acceptedOf, reached, word, words, Takes, Demand2}
+use Rattle.demands.proofs.Mirrors.{Mirrors, shows, opened-mirrors}
 use Rattle.demands.proofs.Works.{Works}
 use Rattle.demands.proofs.Matching.{run-follows, word-works}
 use Rattle.demands.proofs.Settled.{Settled, settled-initial, Proceeds}
@@ -84,12 +84,14 @@ never n C xs x (inl p) = rw (landed C xs (now C xs .run) x (p .takes .next) (p .
 never n C xs x (inr r) = (r .1, r .2)
 
 pub demand-2 : Demand2 ours
-demand-2 n C = record {
-  follows = λ xs. let c = now C xs in record { state = c .next; run = c .run; shows = shows C (c .run) (c .mirrors) };
-  accepted-takes = λ xs σ R x e. taken C xs R x e;
-  takes-accepted = λ xs σ R x T. landed C xs R x (T .next) T (T .run) .code;
-  lands = λ xs σ R x e τ Q. shows C (run-append R Q) (landed C xs R x τ (taken C xs R x e) Q .mirrors);
-  matched = λ ls σ R h. let F = run-follows C stop (opened-mirrors n C) R h in (F .0, shows C R (F .1));
-  never-2-or-8 = λ xs x. never n C xs x (judged C xs (now C xs .run) x);
-  one-slot = λ ls σ R s t S T. one-message R s t (node-of S) (node-of T);
-}
+demand-2 n ok =
+    let C = count-range n ok in
+    record {
+      follows = λ xs. let c = now C xs in record { state = c .next; run = c .run; shows = shows (c .mirrors) };
+      accepted-takes = λ xs σ R x e. taken C xs R x e;
+      takes-accepted = λ xs σ R x T. landed C xs R x (T .next) T (T .run) .code;
+      lands = λ xs σ R x e τ Q. shows (landed C xs R x τ (taken C xs R x e) Q .mirrors);
+      matched = λ ls σ R h. let F = run-follows C stop (opened-mirrors n C) R h in (F .0, shows (F .1));
+      never-2-or-8 = λ xs x. never n C xs x (judged C xs (now C xs .run) x);
+      one-slot = λ ls σ R s t S T. one-message (counting R) s t S T;
+    }

@@ -13,16 +13,12 @@ use Rattle.station.specs.declared.Step.the-variants.{TakeRequest}
 use Rattle.station.specs.Names.{IDLE, SENDING, WAITING, HOLDING, GIVING}
 use Rattle.table.specs.Table.{headIn, cellsIn, opened}
 use Rattle.figure1.specs.Figure1.{Location, m1, m2, m31, m32, m4, m5, m6, m71, m72, Node, State}
-use Rattle.figure1.proofs.Claims as claims
-use Rattle.figure1.proofs.Claims.{In, entered, sending, is, weight}
+use Rattle.figure1.specs.Assertions.{bit, In, entered, sending, is, weight}
 use Rattle.figure1.proofs.Theorems.{excl-or-leaving, message-chain}
 use Rattle.figure1.proofs.Overtaking.{overtaking}
-use Rattle.demands.specs.Demands.{Engine, ours, reached, placeAt, requestQueue, answerQueue, Numbered, Shows, Demand2, bit, underWay, Demand3}
-use Rattle.demands.proofs.Lists.{bit-same, run-after, begun, accepted-next, entries-words}
+use Rattle.demands.specs.Demands.{Engine, ours, reached, placeAt, requestQueue, answerQueue, Shows, Demand2, underWay, Demand3}
+use Rattle.demands.proofs.Lists.{run-after, begun, accepted-next, entries-words}
 use Rattle.demands.proofs.Demand2.{demand-2}
-
-node : {n s : ℕ} → Numbered n s → In n s
-node S = record { low = S .low; high = S .high }
 
 -- ---- at most one station holds the turn
 neither : (b : Bool) (v w : ℕ) → cond b v w ≡ HOLDING → v ≢ HOLDING → w ≢ HOLDING → ⊥
@@ -40,7 +36,7 @@ holding-entered n m6 a h = refl
 holding-entered n m71 a h = absurd (neither (leb (a .p) n) GIVING IDLE h (λ e. omega arith) (λ e. omega arith))
 holding-entered n m72 a h = absurd (omega arith)
 
-holder-entered : {n : ℕ} {t : List Station} {σ : State} → Shows n t σ → (s : ℕ) → Numbered n s → headIn t (s - 1) .place ≡ HOLDING
+holder-entered : {n : ℕ} {t : List Station} {σ : State} → Shows n t σ → (s : ℕ) → In n s → headIn t (s - 1) .place ≡ HOLDING
     → entered (σ .node s .at) ≡ true
 holder-entered {n = n} {σ = σ} S s H e =
     holding-entered n (σ .node s .at) (σ .node s) (sym (ap (λ (h : Head). h .place) (S .heads s H)) ∙ e)
@@ -57,14 +53,14 @@ answers-shown : (b : Bool) → length (answerQueue b) ≡ bit b
 answers-shown true = refl
 answers-shown false = refl
 
-weight-shown : {n : ℕ} {t : List Station} {σ : State} → Shows n t σ → (i j : ℕ) → Numbered n i → Numbered n j → underWay t i j ≡ weight σ i j
+weight-shown : {n : ℕ} {t : List Station} {σ : State} → Shows n t σ → (i j : ℕ) → In n i → In n j → underWay t i j ≡ weight σ i j
 weight-shown {t = t} {σ = σ} S i j H K =
     let q = ap length (S .requests j i K H) ∙ requests-shown (cellsIn t (j - 1) (i - 1) .request) in
     let m = ap bit (S .marks j i K H) in
     let r = ap length (S .answers i j H K) ∙ answers-shown (cellsIn t (i - 1) (j - 1) .answer) in
-    omega (arith, bit-same (σ .node j .rd i))
+    omega arith
 
-not-both : (b : Bool) (l : Location) → claims.bit (sending l && b) + claims.bit (is l m4) ≤ 1
+not-both : (b : Bool) (l : Location) → bit (sending l && b) + bit (is l m4) ≤ 1
 not-both b m1 = omega arith
 not-both b m2 = omega arith
 not-both true m31 = omega arith
@@ -81,10 +77,10 @@ pub demand-3-of : (E : Engine) → Demand2 E → Demand3 E
 demand-3-of E D n C = record {
   one-holder = λ xs i j H K h k.
       let F = D n C .follows xs in
-      excl-or-leaving (F .run) i j (node H) (node K) (holder-entered (F .shows) i H h) (holder-entered (F .shows) j K k);
+      excl-or-leaving (F .run) i j H K (holder-entered (F .shows) i H h) (holder-entered (F .shows) j K k);
   one-errand = λ xs i j H K.
       let F = D n C .follows xs in
-      omega (arith, weight-shown (F .shows) i j H K, message-chain (F .run) i j (node H) (node K), not-both (ltb j (F .state .node i .p)) (F .state .node i .at));
+      omega (arith, weight-shown (F .shows) i j H K, message-chain (F .run) i j H K, not-both (ltb j (F .state .node i .p)) (F .state .node i .at));
   one-entry = λ xs y z h ys none.
       let F = D n C .follows xs in
       let t = E .after n (reached E n xs) (TakeRequest y z) in

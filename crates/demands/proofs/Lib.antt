@@ -3,7 +3,6 @@ pub mod Stations
 pub mod Queues
 pub mod Tables
 pub mod Mirrors
-pub mod Form
 pub mod Rows
 pub mod Works
 pub mod Statements

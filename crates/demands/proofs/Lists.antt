@@ -11,8 +11,9 @@ use Rattle.station.specs.declared.Step.{Step}
 use Rattle.station.specs.declared.Step.the-variants.{Ask, Send, Enter, Leave, Give, TakeRequest, TakeAnswer}
 use Rattle.station.specs.Names.{ACCEPTED}
 use Rattle.figure1.specs.Figure1.{State, Label, can, does, Run, stop, move}
-use Rattle.figure1.proofs.Claims as claims
-use Rattle.demands.specs.Demands.{Engine, accepts, tableAfter, acceptedOf, word, words, bit, enters, entries}
+use Rattle.figure1.specs.Assertions as claims
+use Rattle.figure1.specs.Assertions.{bit}
+use Rattle.demands.specs.Demands.{Engine, accepts, tableAfter, acceptedOf, word, words, enters, entries}
 
 words-append : (xs ys : List Step) → words (xs ++ ys) ≡ words xs ++ words ys
 unfolding words
@@ -27,16 +28,12 @@ run-after (move e R) (move f Q) = run-after R Q
 pub begun : {n : ℕ} {σ τ : State} {l : Label} {ls : List Label} → Run n σ (l ∷ ls) τ → (can n σ l ≡ true) × Run n (does n σ l) ls τ
 begun (move e R) = (e, R)
 
-pub bit-same : (b : Bool) → bit b ≡ claims.bit b
-bit-same true = refl
-bit-same false = refl
-
 -- a step enters where its transitions do
-not-m4 : (b : Bool) → claims.bit (b && false) ≡ 0
+not-m4 : (b : Bool) → bit (b && false) ≡ 0
 not-m4 true = refl
 not-m4 false = refl
 
-at-m4 : (b : Bool) → claims.bit (b && true) ≡ bit b
+at-m4 : (b : Bool) → bit (b && true) ≡ bit b
 at-m4 true = refl
 at-m4 false = refl
 

@@ -11,13 +11,13 @@ use Rattle.station.specs.declared.Station.{Station}
 use Rattle.station.specs.declared.Step.{Step}
 use Rattle.station.specs.declared.Step.the-variants.{Ask, Send, Enter, Leave, Give, TakeRequest, TakeAnswer}
 use Rattle.station.specs.Names.{ACCEPTED}
+use Rattle.station.proofs.Laws.{Count}
 use Rattle.table.specs.Table.{answer, after}
 use Rattle.figure1.specs.Figure1.{m1, m2, m31, m32, m4, m5, m6, m71, m72, State, initial, Label, M, q1, r1, can, does, Run, stop, move}
 use Rattle.figure1.proofs.Sums.{put-here}
-use Rattle.figure1.proofs.Reached.{can-main, can-take}
+use Rattle.figure1.proofs.Enabled.{can-main, can-take}
 use Rattle.figure1.proofs.Runs.{run-append}
-use Rattle.demands.specs.Demands.{Count, ours, tableAfter, acceptedOf, word, stepAt, stepsOf, NumberLeft, NumbersLeft}
-use Rattle.demands.proofs.Stations.{numbered}
+use Rattle.demands.specs.Demands.{ours, tableAfter, acceptedOf, word, stepAt, stepsOf, NumberLeft, NumbersLeft}
 use Rattle.demands.proofs.Mirrors.{Mirrors}
 use Rattle.demands.proofs.Works.{Works}
 use Rattle.demands.proofs.Statements.{m1-stays, m2-works, m31-stays, m32-works, m4-works, m5-stays, m6-works, m71-stays, m72-works}
@@ -42,17 +42,17 @@ module _ {n : ℕ} (C : Count n) where
   module _ {ls : List Label} {σ : State} (R : Run n initial ls σ) {t : List Station} (m : Mirrors n t σ) where
     fine : (l : Label) → can n σ l ≡ true → NumbersLeft n σ (l ∷ []) → Moves n t (stepAt l) (does n σ l)
     unfolding NumbersLeft can
-    fine (M m1 s) e h = let (S, at, _) = can-main n σ m1 s e in still (m1-stays C R m (numbered S) at)
-    fine (M m2 s) e h = let (S, at, _) = can-main n σ m2 s e in step (m2-works C R m (numbered S) at (h .0 .0))
-    fine (M m31 s) e h = let (S, at, _) = can-main n σ m31 s e in still (m31-stays C R m (numbered S) at)
-    fine (M m32 s) e h = let (S, at, _) = can-main n σ m32 s e in step (m32-works C R m (numbered S) at)
-    fine (M m4 s) e h = let (S, at, z) = can-main n σ m4 s e in step (m4-works C R m (numbered S) at (eqb-true _ 0 z))
-    fine (M m5 s) e h = let (S, at, _) = can-main n σ m5 s e in still (m5-stays C R m (numbered S) at)
-    fine (M m6 s) e h = let (S, at, _) = can-main n σ m6 s e in step (m6-works C R m (numbered S) at)
-    fine (M m71 s) e h = let (S, at, _) = can-main n σ m71 s e in still (m71-stays C R m (numbered S) at)
-    fine (M m72 s) e h = let (S, at, _) = can-main n σ m72 s e in step (m72-works C R m (numbered S) at)
-    fine (q1 s u) e h = let (S, U, some) = can-take n s u (σ .chq u s) e in step (q1-works C R m (numbered S) (numbered U) some)
-    fine (r1 s u) e h = let (S, U, some) = can-take n s u (σ .chp u s) e in step (r1-works C R m (numbered S) (numbered U) some)
+    fine (M m1 s) e h = let (S, at, _) = can-main n σ m1 s e in still (m1-stays C R m S at)
+    fine (M m2 s) e h = let (S, at, _) = can-main n σ m2 s e in step (m2-works C R m S at (h .0 .0))
+    fine (M m31 s) e h = let (S, at, _) = can-main n σ m31 s e in still (m31-stays C R m S at)
+    fine (M m32 s) e h = let (S, at, _) = can-main n σ m32 s e in step (m32-works C R m S at)
+    fine (M m4 s) e h = let (S, at, z) = can-main n σ m4 s e in step (m4-works C R m S at (eqb-true _ 0 z))
+    fine (M m5 s) e h = let (S, at, _) = can-main n σ m5 s e in still (m5-stays C R m S at)
+    fine (M m6 s) e h = let (S, at, _) = can-main n σ m6 s e in step (m6-works C R m S at)
+    fine (M m71 s) e h = let (S, at, _) = can-main n σ m71 s e in still (m71-stays C R m S at)
+    fine (M m72 s) e h = let (S, at, _) = can-main n σ m72 s e in step (m72-works C R m S at)
+    fine (q1 s u) e h = let (S, U, some) = can-take n s u (σ .chq u s) e in step (q1-works C R m S U some)
+    fine (r1 s u) e h = let (S, U, some) = can-take n s u (σ .chp u s) e in step (r1-works C R m S U some)
 
   pub run-follows : {ks ls : List Label} {σ τ : State} {t : List Station} → Run n initial ks σ → Mirrors n t σ → Run n σ ls τ
       → NumbersLeft n σ ls → Follows n t (stepsOf ls) τ

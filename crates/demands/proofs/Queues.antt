@@ -9,8 +9,8 @@ use lib.Dec.{eqb}
 use lib.ListN.{length}
 use borrow.Author.Tests.{eqb-true, eqb-false}
 use Rattle.station.specs.declared.Cells.{Cells}
-use Rattle.station.specs.Form.{newCells}
-use Rattle.figure1.proofs.Claims.{bit}
+use Rattle.form.specs.Form.{newCells}
+use Rattle.figure1.specs.Assertions.{bit}
 use Rattle.demands.specs.Demands.{requestQueue, answerQueue}
 
 module _ (r : ℕ) where

@@ -1,7 +1,7 @@
 -- The table that a whole round of one of two stations leaves while the other is Idle, with any numbers.
 use mathlib.Core.Path.{_≡_, refl}
 use mathlib.Core.Bool.{Bool, true, false, cond}
-use mathlib.Core.List.{List, [], _∷_, _++_}
+use mathlib.Core.List.{List, _∷_, _++_}
 use Prim.Native.Nat.{ℕ, _+_, _≤_, _<_}
 use native.Mathlib.Omega.{arith}
 use borrow.Author.Tests.{ne-eqb, lt-ltb}
@@ -13,7 +13,7 @@ use Rattle.station.specs.declared.Station.{Station}
 use Rattle.station.specs.declared.Step.{Step}
 use Rattle.station.specs.declared.Step.the-variants.{Ask, Send, Enter, Leave, Give, TakeRequest, TakeAnswer}
 use Rattle.station.specs.Names.{IDLE, SENDING, WAITING, HOLDING, GIVING, LAST_NUMBER}
-use Rattle.station.specs.Form.{newCells, newStation}
+use Rattle.form.specs.Form.{newCells, newStation}
 use Rattle.table.specs.Table.{after}
 use Rattle.demands.specs.Demands.{ours, tableAfter}
 use Rattle.demands.specs.ShortRuns.{round}

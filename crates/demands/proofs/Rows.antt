@@ -10,11 +10,13 @@ use lib.Dec.{eqb, leb, ltb}
 use borrow.Author.Tests.{eq-eqb, ne-eqb, le-leb, le-ltb}
 use Rattle.station.specs.declared.Cells.{Cells}
 use Rattle.station.specs.declared.Head.{Head}
-use Rattle.station.specs.Names.{IDLE, SENDING, WAITING, GIVING, LAST_NUMBER}
-use Rattle.station.specs.Rules.{isAsking, goesFirst, answersNow, accepted, onward, larger, withRequest, withAnswer, withMark, askRule, sendRule, enterRule, leaveRule, giveRule, takeRequestRule, takeAnswerRule}
-use Rattle.station.specs.Rules.{raised as heard}
-use Rattle.figure1.specs.Figure1.{Location, m1, m2, m31, m32, m4, m5, m6, m71, m72, Node, goto, asked, counted, released, deferred, raised, replied, grants}
-use Rattle.figure1.proofs.Claims.{asking}
+use Rattle.station.specs.Names.{IDLE, SENDING, WAITING, GIVING, LAST_NUMBER, ACCEPTED}
+use Rattle.station.specs.Stations.{isAsking}
+use Rattle.station.specs.Setters.{withPlace, withOwn, withHigh, withNext, withDue, withRequest, withAnswer, withMark}
+use Rattle.rows.specs.Rows.{goesFirst, answersNow, outcomeOf, onward, larger, askRule, sendRule, enterRule, leaveRule, giveRule, takeRequestRule, takeAnswerRule}
+use Rattle.rows.specs.Rows.{raised as heard}
+use Rattle.figure1.specs.Figure1.{Location, m1, m2, m31, m32, m4, m5, m6, m71, m72, Node, at≔, asked, counted, released, rd≔, raised, replied, grants}
+use Rattle.figure1.specs.Assertions.{asking}
 use Rattle.demands.specs.Demands.{placeAt, nextAt, headShown}
 
 module _ (n : ℕ) where
@@ -42,14 +44,11 @@ module _ (n : ℕ) where
   next-stays m72 a b e = e
 
   pub shown-again : (a b : Node) → b .at ≡ a .at → b .p ≡ a .p
-      → headShown n b ≡ record { place = placeAt n (a .at) a; own = b .osn; high = b .hsn; next = nextAt n (a .at) a; due = b .c }
-  shown-again a b e f = λ i. record {
-    place = (ap (λ (l : Location). placeAt n l b) e ∙ place-stays (a .at) a b f) i;
-    own = b .osn;
-    high = b .hsn;
-    next = (ap (λ (l : Location). nextAt n l b) e ∙ next-stays (a .at) a b f) i;
-    due = b .c;
-  }
+      → headShown n b ≡ withDue (b .c) (withHigh (b .hsn) (withOwn (b .osn) (headShown n a)))
+  shown-again a b e f =
+      let place = ap (λ (l : Location). placeAt n l b) e ∙ place-stays (a .at) a b f in
+      let next = ap (λ (l : Location). nextAt n l b) e ∙ next-stays (a .at) a b f in
+      λ i. withNext (next i) (withPlace (place i) (headShown n b))
 
   -- ---- who goes first
   asking-shown : (l : Location) (a : Node) → isAsking (placeAt n l a) ≡ asking l
@@ -97,7 +96,7 @@ module _ (n : ℕ) where
   -- ---- the rows
   module _ (a : Node) (c d : Cells) where
     abbrev kept : ℕ → ℕ → Head
-    kept place next = record { place = place; own = a .osn; high = a .hsn; next = next; due = a .c }
+    kept place next = withPlace place (withNext next (headShown n a))
 
     -- "then p + 1, or after p = N place .. with p = 1"
     onward-shown : (here then : ℕ)
@@ -109,51 +108,51 @@ module _ (n : ℕ) where
         go true = refl
         go false = refl
 
-    pub ask-row : a .at ≡ m2 → a .hsn < LAST_NUMBER → 1 ≤ n → askRule n (headShown n a) c d ≡ accepted (headShown n (asked n a)) c d
+    pub ask-row : a .at ≡ m2 → a .hsn < LAST_NUMBER → 1 ≤ n → askRule n (headShown n a) c d ≡ outcomeOf ACCEPTED (headShown n (asked n a)) c d
     unfolding askRule
     ask-row e h l = rw (e, ne-eqb (a .hsn) LAST_NUMBER (omega arith), le-leb 1 n l)
 
-    pub send-self-row : (s : ℕ) → a .at ≡ m32 → a .p ≡ s → sendRule n s (headShown n a) c d ≡ accepted (headShown n (counted m31 a)) c d
+    pub send-self-row : (s : ℕ) → a .at ≡ m32 → a .p ≡ s → sendRule n s (headShown n a) c d ≡ outcomeOf ACCEPTED (headShown n (counted m31 a)) c d
     unfolding sendRule
     send-self-row s e f = rw (e, eq-eqb (a .p) s f, onward-shown SENDING WAITING)
 
     pub send-row : (s : ℕ) → a .at ≡ m32 → a .p ≢ s → d .request ≡ 0
-        → sendRule n s (headShown n a) c d ≡ accepted (headShown n (counted m31 a)) c (withRequest d (a .osn))
+        → sendRule n s (headShown n a) c d ≡ outcomeOf ACCEPTED (headShown n (counted m31 a)) c (withRequest (a .osn) d)
     unfolding sendRule
     send-row s e f z = rw (e, ne-eqb (a .p) s f, eq-eqb (d .request) 0 z, onward-shown SENDING WAITING)
 
-    pub enter-row : a .at ≡ m4 → a .c ≡ 0 → enterRule (headShown n a) c d ≡ accepted (headShown n (goto m5 a)) c d
+    pub enter-row : a .at ≡ m4 → a .c ≡ 0 → enterRule (headShown n a) c d ≡ outcomeOf ACCEPTED (headShown n (at≔ m5 a)) c d
     unfolding enterRule
     enter-row e z = rw (e, eq-eqb (a .c) 0 z)
 
-    pub leave-row : a .at ≡ m6 → 1 ≤ n → leaveRule (headShown n a) c d ≡ accepted (headShown n (released a)) c d
+    pub leave-row : a .at ≡ m6 → 1 ≤ n → leaveRule (headShown n a) c d ≡ outcomeOf ACCEPTED (headShown n (released a)) c d
     unfolding leaveRule
     leave-row e l = rw (e, le-leb 1 n l)
 
     pub give-row : a .at ≡ m72 → c .mark ≡ true → d .answer ≡ false
-        → giveRule n (headShown n a) c d ≡ accepted (headShown n (counted m71 a)) (withMark c false) (withAnswer d true)
+        → giveRule n (headShown n a) c d ≡ outcomeOf ACCEPTED (headShown n (counted m71 a)) (withMark false c) (withAnswer true d)
     unfolding giveRule
     give-row e m z = rw (e, m, z, onward-shown GIVING IDLE)
 
-    pub give-none-row : a .at ≡ m72 → c .mark ≡ false → giveRule n (headShown n a) c d ≡ accepted (headShown n (counted m71 a)) c d
+    pub give-none-row : a .at ≡ m72 → c .mark ≡ false → giveRule n (headShown n a) c d ≡ outcomeOf ACCEPTED (headShown n (counted m71 a)) c d
     unfolding giveRule
     give-none-row e m = rw (e, m, onward-shown GIVING IDLE)
 
     module _ (s t : ℕ) (some : c .request ≢ 0) where
       pub grant-row : answersNow (c .request) t (placeAt n (a .at) a) (a .osn) s ≡ true → d .answer ≡ false
           → takeRequestRule s t (headShown n a) c d
-          ≡ accepted (headShown n (raised (c .request) a)) (withRequest c 0) (withAnswer d true)
+          ≡ outcomeOf ACCEPTED (headShown n (raised (c .request) a)) (withRequest 0 c) (withAnswer true d)
       unfolding takeRequestRule heard larger
       grant-row e z = rw (ne-eqb (c .request) 0 some, e, z, shown-again a (raised (c .request) a) refl refl)
 
       pub defer-row : answersNow (c .request) t (placeAt n (a .at) a) (a .osn) s ≡ false → c .mark ≡ false
           → takeRequestRule s t (headShown n a) c d
-          ≡ accepted (headShown n (deferred t true (raised (c .request) a))) (withMark (withRequest c 0) true) d
+          ≡ outcomeOf ACCEPTED (headShown n (rd≔ t true (raised (c .request) a))) (withMark true (withRequest 0 c)) d
       unfolding takeRequestRule heard larger
       defer-row e z =
-          rw (ne-eqb (c .request) 0 some, e, z, shown-again a (deferred t true (raised (c .request) a)) refl refl)
+          rw (ne-eqb (c .request) 0 some, e, z, shown-again a (rd≔ t true (raised (c .request) a)) refl refl)
 
     pub answer-row : c .answer ≡ true → 1 ≤ a .c
-        → takeAnswerRule (headShown n a) c d ≡ accepted (headShown n (replied a)) (withAnswer c false) d
+        → takeAnswerRule (headShown n a) c d ≡ outcomeOf ACCEPTED (headShown n (replied a)) (withAnswer false c) d
     unfolding takeAnswerRule
     answer-row e l = rw (e, ne-eqb (a .c) 0 (omega arith), shown-again a (replied a) refl refl)

@@ -12,12 +12,14 @@ use borrow.Author.Tests.{eq-eqb}
 use Rattle.station.specs.declared.Step.{Step}
 use Rattle.station.specs.declared.Step.the-variants.{TakeRequest, TakeAnswer}
 use Rattle.station.specs.Names.{IDLE, SENDING, WAITING, HOLDING, LAST_NUMBER}
-use Rattle.figure1.specs.Figure1.{Location, m1, m31, m32, m4, m5, m71, m72, Node, State, initial, Label, M, q1, r1, Run, stop, move, can, does, put, first, main, number, passes, some, isNode, goto, deferred, raised, replied, grants}
+use Rattle.station.proofs.Laws.{by-test}
+use Rattle.figure1.specs.Figure1.{Location, m1, m31, m32, m4, m5, m71, m72, Node, State, initial, Label, M, q1, r1, Run, stop, move, can, does, put, first, main, number, passes, some, isNode, at≔, rd≔, raised, replied, grants}
+use Rattle.figure1.specs.Assertions.{In}
 use Rattle.figure1.proofs.Sums.{put-here, put-there}
 use Rattle.figure1.proofs.Theorems.{request-in-channel}
 use Rattle.figure1.proofs.Runs.{run-append}
-use Rattle.demands.specs.Demands.{Numbered, Takes, word, placeAt, NumberLeft}
-use Rattle.demands.proofs.Stations.{node-of, is-node}
+use Rattle.demands.specs.Demands.{Takes, word, placeAt, NumberLeft}
+use Rattle.demands.proofs.Stations.{is-node}
 use Rattle.demands.proofs.Rows.{place-stays}
 
 -- the one location between steps that a place stands for
@@ -30,7 +32,7 @@ pub record Rests (n : ℕ) (a : Node) : Type 0 where
   pub high : a .hsn ≤ LAST_NUMBER
 
 abbrev pub Settled : ℕ → (ℕ → Node) → Type 0
-Settled n nodes = (s : ℕ) → Numbered n s → Rests n (nodes s)
+Settled n nodes = (s : ℕ) → In n s → Rests n (nodes s)
 
 pub settled-initial : (n : ℕ) → Settled n (initial .node)
 settled-initial n s S = record { at-home = refl; own = omega arith; high = omega arith }
@@ -50,27 +52,19 @@ pub record Walks (n : ℕ) (σ : State) (s : ℕ) (ls : List Label) (a : Node) :
 others-settled : {n : ℕ} (f g : ℕ → Node) (s : ℕ) → Settled n f → Rests n (g s) → ((k : ℕ) → k ≢ s → g k ≡ f k) → Settled n g
 others-settled f g s H r o k K = elim (ℕ-discrete k s) [ yes e ↦ rw e r | no d ↦ rw (o k d) (H k K) ]
 
-can-walk : {n s : ℕ} (S : Numbered n s) (τ : State) (l : Location) → τ .node s .at ≡ l → passes l (τ .node s) ≡ true → can n τ (M l s) ≡ true
+can-walk : {n s : ℕ} (S : In n s) (τ : State) (l : Location) → τ .node s .at ≡ l → passes l (τ .node s) ≡ true → can n τ (M l s) ≡ true
 unfolding can
 can-walk {s = s} S τ l e f = rw (is-node S, eq-eqb (number (τ .node s .at)) (number l) (ap number e)) f
 
-can-receive : {n s u : ℕ} (S : Numbered n s) (U : Numbered n u) (q : List ℕ) → 0 < length q → (isNode n s && (isNode n u && some q)) ≡ true
+can-receive : {n s u : ℕ} (S : In n s) (U : In n u) (q : List ℕ) → 0 < length q → (isNode n s && (isNode n u && some q)) ≡ true
 can-receive S U q h = rw (is-node S, is-node U) (go q h)
   where
     go : (q : List ℕ) → 0 < length q → some q ≡ true
     go [] h = absurd (omega arith)
     go (x ∷ q) h = refl
 
-either-settled : {n : ℕ} (b : Bool) (σ τ : State) → Settled n (σ .node) → Settled n (τ .node) → Settled n (cond b σ τ .node)
-either-settled true σ τ H G = H
-either-settled false σ τ H G = G
-
 no-higher : (h r : ℕ) → h ≤ LAST_NUMBER → r ≤ LAST_NUMBER → cond (ltb h r) r h ≤ LAST_NUMBER
-no-higher h r a b = go (ltb h r)
-  where
-    go : (t : Bool) → cond t r h ≤ LAST_NUMBER
-    go true = b
-    go false = a
+no-higher h r a b = by-test (λ (m : ℕ). m ≤ LAST_NUMBER) (ltb h r) (λ _. b) (λ _. a)
 
 module _ {n : ℕ} where
   -- past the loop tests
@@ -78,14 +72,14 @@ module _ {n : ℕ} where
     pub rests-sending : Rests n (main n s m31 a)
     rests-sending = go (leb (a .p) n)
       where
-        go : (b : Bool) → Rests n (goto (cond b m32 m4) a)
+        go : (b : Bool) → Rests n (at≔ (cond b m32 m4) a)
         go true = record { at-home = refl; own = own; high = high }
         go false = record { at-home = refl; own = own; high = high }
 
     pub rests-giving : Rests n (main n s m71 a)
     rests-giving = go (leb (a .p) n)
       where
-        go : (b : Bool) → Rests n (goto (cond b m72 m1) a)
+        go : (b : Bool) → Rests n (at≔ (cond b m72 m1) a)
         go true = record { at-home = refl; own = own; high = high }
         go false = record { at-home = refl; own = own; high = high }
 
@@ -97,7 +91,7 @@ module _ {n : ℕ} where
     high = h;
   }
 
-  module _ (σ : State) {s : ℕ} (S : Numbered n s) where
+  module _ (σ : State) {s : ℕ} (S : In n s) where
     pub begins : Walks n σ s [] (σ .node s)
     begins = record { next = σ; run = stop; here = refl; there = λ k _. refl }
 
@@ -117,10 +111,10 @@ module _ {n : ℕ} where
       settled = others-settled (σ .node) (W .next .node) s H (rw (W .here) r) (W .there);
     }
 
-  module _ (σ : State) {s u : ℕ} (S : Numbered n s) (U : Numbered n u) (H : Settled n (σ .node)) where
-    turned : (b : Node) → b .at ≡ σ .node s .at → b .p ≡ σ .node s .p → b .osn ≡ σ .node s .osn → b .hsn ≤ LAST_NUMBER
+  module _ (σ : State) {s u : ℕ} (S : In n s) (U : In n u) (H : Settled n (σ .node)) where
+    changed : (b : Node) → b .at ≡ σ .node s .at → b .p ≡ σ .node s .p → b .osn ≡ σ .node s .osn → b .hsn ≤ LAST_NUMBER
         → Settled n (put (σ .node) s b)
-    turned b e f o h =
+    changed b e f o h =
         others-settled (σ .node) _ s H (rw put-here (rests-on (σ .node s) b (H s S) e f o h)) (λ k d. put-there (σ .node) s b k d)
 
     pub requested : {ls : List Label} → Run n initial ls σ → 0 < length (σ .chq u s) → Proceeds n σ (TakeRequest s u)
@@ -131,13 +125,13 @@ module _ {n : ℕ} where
         run = move (can-receive S U (σ .chq u s) h) stop;
         number = tt;
       };
-      settled = either-settled (grants s u (first (σ .chq u s)) (σ .node s)) _ _
-          (turned (raised (first (σ .chq u s)) (σ .node s)) refl refl refl seen)
-          (turned (deferred u true (raised (first (σ .chq u s)) (σ .node s))) refl refl refl seen);
+      settled = by-test (λ (τ : State). Settled n (τ .node)) (grants s u (first (σ .chq u s)) (σ .node s))
+          (λ _. changed (raised (first (σ .chq u s)) (σ .node s)) refl refl refl seen)
+          (λ _. changed (rd≔ u true (raised (first (σ .chq u s)) (σ .node s))) refl refl refl seen);
     }
       where
         seen : raised (first (σ .chq u s)) (σ .node s) .hsn ≤ LAST_NUMBER
-        seen = no-higher _ _ (H s S .high) (rw (request-in-channel R u s (node-of U) (node-of S) h) (H u U .own))
+        seen = no-higher _ _ (H s S .high) (rw (request-in-channel R u s U S h) (H u U .own))
 
     pub answered : 0 < length (σ .chp u s) → Proceeds n σ (TakeAnswer s u)
     unfolding can does
@@ -147,5 +141,5 @@ module _ {n : ℕ} where
         run = move (can-receive S U (σ .chp u s) h) stop;
         number = tt;
       };
-      settled = turned (replied (σ .node s)) refl refl refl (H s S .high);
+      settled = changed (replied (σ .node s)) refl refl refl (H s S .high);
     }

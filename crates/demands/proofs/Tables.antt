@@ -10,9 +10,9 @@ use lib.Seq.{getD-set-same, getD-set-other}
 use Rattle.station.specs.declared.Head.{Head}
 use Rattle.station.specs.declared.Cells.{Cells}
 use Rattle.station.specs.declared.Station.{Station}
-use Rattle.station.specs.declared.Outcome.{Outcome}
+use Rattle.rows.specs.declared.Outcome.{Outcome}
 use Rattle.station.specs.Names.{STATIONS}
-use Rattle.station.specs.Form.{newCells}
+use Rattle.form.specs.Form.{newCells}
 use Rattle.table.specs.Table.{noStation, headIn, cellsIn, putHead, putCells, landed}
 
 -- 32 records of 32 cells

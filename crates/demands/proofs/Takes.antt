@@ -10,21 +10,25 @@ use borrow.Author.Tests.{ne-eqb}
 use Rattle.station.specs.declared.Station.{Station}
 use Rattle.station.specs.declared.Cells.{Cells}
 use Rattle.station.specs.declared.Step.the-variants.{TakeRequest, TakeAnswer}
-use Rattle.station.specs.Rules.{stationsOk, stepRule, answersNow}
+use Rattle.station.specs.Stations.{stationsOk}
+use Rattle.rows.specs.Rows.{stepRule, answersNow}
+use Rattle.station.proofs.Laws.{Count}
 use Rattle.table.specs.Table.{cellsIn}
-use Rattle.figure1.specs.Figure1.{Node, State, initial, Label, q1, r1, Run, does, put, put₂, send, others, deferred, raised, replied}
+use Rattle.figure1.specs.Figure1.{Node, State, initial, Label, q1, r1, Run, does, put, put₂, send, others, rd≔, raised, replied}
+use Rattle.figure1.specs.Assertions.{In}
 use Rattle.figure1.proofs.Sums.{put-here, put-there, put₂-here, put₂-row}
 use Rattle.figure1.proofs.Theorems.{rcs-range}
+use Rattle.figure1.proofs.Reached.{counting}
 use Rattle.figure1.proofs.Slots.{no-self, room-to-judge, reply-due}
-use Rattle.demands.specs.Demands.{Numbered, Count, placeAt}
-use Rattle.demands.proofs.Stations.{node-of, is-station}
+use Rattle.demands.specs.Demands.{placeAt}
+use Rattle.demands.proofs.Stations.{is-station}
 use Rattle.demands.proofs.Queues.{a-request, no-answer, an-answer}
 use Rattle.demands.proofs.Mirrors.{Mirrors, lands}
 use Rattle.demands.proofs.Rows.{grants-shown, grant-row, defer-row, answer-row}
 use Rattle.demands.proofs.Works.{Works, works, put₂-elsewhere}
 
 module _ {n : ℕ} (C : Count n) {ls : List Label} {σ : State} (R : Run n initial ls σ) {t : List Station} (m : Mirrors n t σ)
-    {s u : ℕ} (S : Numbered n s) (U : Numbered n u) where
+    {s u : ℕ} (S : In n s) (U : In n u) where
   abbrev a : Node
   a = σ .node s
 
@@ -35,7 +39,7 @@ module _ {n : ℕ} (C : Count n) {ls : List Label} {σ : State} (R : Run n initi
   theirs = cellsIn t (u - 1) (s - 1)
 
   apart : 0 < length (σ .chq u s) + length (σ .chp u s) → s ≢ u
-  apart h z = omega (arith, no-self R s (node-of S), rw (← z) at h)
+  apart h z = omega (arith, no-self (counting R) s S, rw (← z) at h)
 
   module _ (h : 0 < length (σ .chq u s)) where
     other : s ≢ u
@@ -59,7 +63,7 @@ module _ {n : ℕ} (C : Count n) {ls : List Label} {σ : State} (R : Run n initi
 
     abbrev marking : State
     marking = record {
-      node = put (σ .node) s (deferred u true (raised (mine .request) a));
+      node = put (σ .node) s (rd≔ u true (raised (mine .request) a));
       chq = put₂ (σ .chq) u s [];
       chp = σ .chp;
     }
@@ -68,7 +72,7 @@ module _ {n : ℕ} (C : Count n) {ls : List Label} {σ : State} (R : Run n initi
         → Works n t (TakeRequest s u) answering
     unfolding stationsOk stepRule
     answers e =
-        works C R m (TakeRequest s u) S U refl refl (rw (is-station S, is-station U, ne-eqb s u other))
+        works C m (TakeRequest s u) S U refl refl (rw (is-station S, is-station U, ne-eqb s u other))
         (grant-row n a mine theirs s u (slot .0) e (no-answer _ (ap length (sym (m .wires u s U S .answer) ∙ room))))
         (lands C m S (raised (mine .request) a) U _ _ _ (put₂ (σ .chq) u s []) (send (σ .chp) s u 1) refl
         (λ _. record {
@@ -86,15 +90,15 @@ module _ {n : ℕ} (C : Count n) {ls : List Label} {σ : State} (R : Run n initi
         (λ l _. refl))
       where
         room : σ .chp s u ≡ []
-        room = room-to-judge R s u (node-of S) (node-of U) h .0
+        room = room-to-judge (counting R) s u S U h .0
 
     marks : answersNow (mine .request) u (placeAt n (a .at) a) (a .osn) s ≡ false
         → Works n t (TakeRequest s u) marking
     unfolding stationsOk stepRule
     marks e =
-        works C R m (TakeRequest s u) S U refl refl (rw (is-station S, is-station U, ne-eqb s u other))
-        (defer-row n a mine theirs s u (slot .0) e (sym (m .wires s u S U .mark) ∙ room-to-judge R s u (node-of S) (node-of U) h .1))
-        (lands C m S (deferred u true (raised (mine .request) a)) U _ _ _ (put₂ (σ .chq) u s []) (σ .chp) refl
+        works C m (TakeRequest s u) S U refl refl (rw (is-station S, is-station U, ne-eqb s u other))
+        (defer-row n a mine theirs s u (slot .0) e (sym (m .wires s u S U .mark) ∙ room-to-judge (counting R) s u S U h .1))
+        (lands C m S (rd≔ u true (raised (mine .request) a)) U _ _ _ (put₂ (σ .chq) u s []) (σ .chp) refl
         (λ _. record {
           request = put₂-here (σ .chq) u s [];
           answer = m .wires s u S U .answer;
@@ -103,7 +107,7 @@ module _ {n : ℕ} (C : Count n) {ls : List Label} {σ : State} (R : Run n initi
         (record {
           request = taken [] ∙ m .wires u s U S .request;
           answer = m .wires u s U S .answer;
-          mark = rw (put-there (σ .node) s (deferred u true (raised (mine .request) a)) u (λ z. other (sym z))) (m .wires u s U S .mark);
+          mark = rw (put-there (σ .node) s (rd≔ u true (raised (mine .request) a)) u (λ z. other (sym z))) (m .wires u s U S .mark);
         })
         (λ k l f _. put₂-elsewhere (σ .chq) u s _ k l f)
         (λ k l _ _. refl)
@@ -111,7 +115,7 @@ module _ {n : ℕ} (C : Count n) {ls : List Label} {σ : State} (R : Run n initi
 
     pub q1-works : Works n t (TakeRequest s u) (does n σ (q1 s u))
     unfolding does
-    q1-works = rw (slot .1, grants-shown n a (rcs-range R s (node-of S)) (mine .request) u s)
+    q1-works = rw (slot .1, grants-shown n a (rcs-range R s S) (mine .request) u s)
         (go (answersNow (mine .request) u (placeAt n (a .at) a) (a .osn) s) refl)
       where
         go : (b : Bool) → answersNow (mine .request) u (placeAt n (a .at) a) (a .osn) s ≡ b
@@ -123,8 +127,8 @@ module _ {n : ℕ} (C : Count n) {ls : List Label} {σ : State} (R : Run n initi
     pub r1-works : Works n t (TakeAnswer s u) (does n σ (r1 s u))
     unfolding does stationsOk stepRule
     r1-works =
-        works C R m (TakeAnswer s u) S U refl refl (rw (is-station S, is-station U, ne-eqb s u d))
-        (answer-row n a mine theirs full (reply-due R s u (node-of S) (node-of U) h))
+        works C m (TakeAnswer s u) S U refl refl (rw (is-station S, is-station U, ne-eqb s u d))
+        (answer-row n a mine theirs full (reply-due (counting R) s u S U h))
         (lands C m S (replied a) U _ _ _ (σ .chq) (put₂ (σ .chp) u s (others (σ .chp u s))) refl
         (λ _. record {
           request = m .wires s u S U .request;

@@ -6,7 +6,7 @@ use native.Mathlib.Omega.{arith}
 use Rattle.station.specs.declared.Head.{Head}
 use Rattle.station.specs.declared.Step.the-variants.{Ask, Enter}
 use Rattle.figure1.specs.Figure1.{State, initial, M, m1, m2, m31, can, does, put, Run, stop, move}
-use Rattle.demands.specs.Demands.{Count, Demand2, acceptedOf, words, word, Engine, ours, tableAfter, reached, OneHolder}
+use Rattle.demands.specs.Demands.{Demand2, acceptedOf, words, word, Engine, ours, tableAfter, reached, OneHolder}
 use Rattle.demands.specs.Useless.{refusesAll, saysAccepted, doesNothing, worksOnce, allIdle, ShutsOut, PassFirstSentence}
 use Rattle.demands.proofs.Computed.{computed}
 use Rattle.demands.proofs.Lists.{begun, after-append}
@@ -14,12 +14,14 @@ use mathlib.Core.Logic.{_⊎_, inl, inr}
 use Prim.Native.Nat.{ℕ}
 use Rattle.station.specs.declared.Station.{Station}
 use Rattle.station.specs.declared.Step.{Step}
+use Rattle.station.specs.Stations.{countOk}
 use Rattle.table.specs.Table.{after}
 use Rattle.demands.proofs.Demand3.{demand-3}
 
 -- ---- what demand 2 shuts out
-two : Count 2
-two = record { low = omega arith; high = omega arith }
+two : countOk 2 ≡ true
+unfolding countOk
+two = refl
 
 -- the program after Ask 1
 abbrev asked : State
@@ -80,20 +82,20 @@ module _ (E : Engine) (S : StepsOrKeeps E) (n : ℕ) where
   stays-ours t [] o = o
   stays-ours t (x ∷ xs) o = stays-ours (E .after n t x) xs (one-more t x o)
 
-passes : (n : ℕ) → Count n → (E : Engine) → StepsOrKeeps E → OneHolder E n
+passes : (n : ℕ) → countOk n ≡ true → (E : Engine) → StepsOrKeeps E → OneHolder E n
 unfolding tableAfter
-passes n C E S xs i j H K h k =
+passes n ok E S xs i j H K h k =
     let o = stays-ours E S n _ xs (record { steps = []; same = refl }) in
-    demand-3 n C .one-holder (o .steps) i j H K (rw (o .same) at h) (rw (o .same) at k)
+    demand-3 n ok .one-holder (o .steps) i j H K (rw (o .same) at h) (rw (o .same) at k)
 
 either : (b : Bool) (t u : List Station) → (cond b t u ≡ t) ⊎ (cond b t u ≡ u)
 either true t u = inl refl
 either false t u = inr refl
 
-pub pass-first-sentence : (n : ℕ) → Count n → PassFirstSentence n
-pass-first-sentence n C = record {
-  refuses-all = passes n C refusesAll (λ n t x. inr refl);
-  says-accepted = passes n C saysAccepted (λ n t x. inr refl);
-  does-nothing = passes n C doesNothing (λ n t x. inr refl);
-  works-once = passes n C worksOnce (λ n t x. either (allIdle t) (after n t x) t);
+pub pass-first-sentence : (n : ℕ) → countOk n ≡ true → PassFirstSentence n
+pass-first-sentence n ok = record {
+  refuses-all = passes n ok refusesAll (λ n t x. inr refl);
+  says-accepted = passes n ok saysAccepted (λ n t x. inr refl);
+  does-nothing = passes n ok doesNothing (λ n t x. inr refl);
+  works-once = passes n ok worksOnce (λ n t x. either (allIdle t) (after n t x) t);
 }

@@ -11,7 +11,9 @@ use Rattle.station.specs.declared.Station.{Station}
 use Rattle.station.specs.declared.Step.{Step}
 use Rattle.station.specs.declared.Step.the-variants.{Ask, Send, Enter, Leave, Give, TakeRequest, TakeAnswer}
 use Rattle.station.specs.Names.{IDLE, SENDING, WAITING, HOLDING, GIVING, LAST_NUMBER, ACCEPTED, NOT_WELL_FORMED, AT_ODDS}
+use Rattle.station.specs.Stations.{countOk}
 use Rattle.table.specs.Table.{headIn, cellsIn, opened, wellFormed, answer, after}
+use Rattle.figure1.specs.Assertions.{bit, In}
 use Rattle.figure1.specs.Figure1.{Location, m1, m2, m31, m32, m4, m5, m6, m71, m72, Node, State, initial, Label, M, q1, r1, does, Run}
 
 -- ---- an engine, and what it makes of a list of offered steps
@@ -82,7 +84,7 @@ stepsOf (l ∷ ls) = stepAt l ++ stepsOf ls
 abbrev pub inLoop : ℕ → Node → ℕ → ℕ → ℕ
 inLoop n a looping past = cond (leb (a .p) n) looping past
 
--- the place, by where M stands; past a loop's last turn it is the next place
+-- the place, by where M stands; past a loop's last peer it is the next place
 abbrev pub placeAt : ℕ → Location → Node → ℕ
 placeAt n m1 a = IDLE
 placeAt n m2 a = IDLE
@@ -118,18 +120,13 @@ requestQueue request = cond (eqb request 0) [] (request ∷ [])
 abbrev pub answerQueue : Bool → List ℕ
 answerQueue answer = cond answer (1 ∷ []) []
 
--- s is a station: 1 to n
-pub record Numbered (n s : ℕ) : Type 0 where
-  pub low : 1 ≤ s
-  pub high : s ≤ n
-
 -- by its form, the table holds nothing else
 pub record Shows (n : ℕ) (t : List Station) (σ : State) : Type 0 where
   pub form : wellFormed n t ≡ true
-  pub heads : (s : ℕ) → Numbered n s → headIn t (s - 1) ≡ headShown n (σ .node s)
-  pub requests : (s u : ℕ) → Numbered n s → Numbered n u → σ .chq u s ≡ requestQueue (cellsIn t (s - 1) (u - 1) .request)
-  pub answers : (s u : ℕ) → Numbered n s → Numbered n u → σ .chp u s ≡ answerQueue (cellsIn t (s - 1) (u - 1) .answer)
-  pub marks : (s u : ℕ) → Numbered n s → Numbered n u → σ .node s .rd u ≡ cellsIn t (s - 1) (u - 1) .mark
+  pub heads : (s : ℕ) → In n s → headIn t (s - 1) ≡ headShown n (σ .node s)
+  pub requests : (s u : ℕ) → In n s → In n u → σ .chq u s ≡ requestQueue (cellsIn t (s - 1) (u - 1) .request)
+  pub answers : (s u : ℕ) → In n s → In n u → σ .chp u s ≡ answerQueue (cellsIn t (s - 1) (u - 1) .answer)
+  pub marks : (s u : ℕ) → In n s → In n u → σ .node s .rd u ≡ cellsIn t (s - 1) (u - 1) .mark
 
 -- ---- demand 2
 -- "and a number is left"
@@ -163,11 +160,6 @@ pub record ShowsRun (n : ℕ) (ls : List Label) (t : List Station) : Type 0 wher
   pub run : Run n initial ls state
   pub shows : Shows n t state
 
--- "a network of 2 to 32 stations"
-pub record Count (n : ℕ) : Type 0 where
-  pub low : 2 ≤ n
-  pub high : n ≤ 32
-
 -- the program is in the state σ after just the accepted ones of the offered steps xs
 abbrev pub Led : Engine → ℕ → List Step → State → Type 0
 Led E n xs σ = Run n initial (words (acceptedOf E n opened xs)) σ
@@ -189,19 +181,14 @@ pub record Demand2At (E : Engine) (n : ℕ) : Type 0 where
   -- "Its wires are queues without bound; ours have one slot each, and that this is enough .. is part of demand 2"
   pub never-2-or-8 : (xs : List Step) (x : Step)
       → (E .answer n (reached E n xs) x ≢ NOT_WELL_FORMED) × (E .answer n (reached E n xs) x ≢ AT_ODDS)
-  pub one-slot : (ls : List Label) (σ : State) → Run n initial ls σ → (s t : ℕ) → Numbered n s → Numbered n t
+  pub one-slot : (ls : List Label) (σ : State) → Run n initial ls σ → (s t : ℕ) → In n s → In n t
       → (length (σ .chq s t) ≤ 1) × (length (σ .chp s t) ≤ 1)
 
--- demand 2: for every count
+-- demand 2: for "a network of 2 to 32 stations"
 abbrev pub Demand2 : Engine → Type 0
-Demand2 E = (n : ℕ) → Count n → Demand2At E n
+Demand2 E = (n : ℕ) → countOk n ≡ true → Demand2At E n
 
 -- ---- demand 3
--- a test as a number
-abbrev pub bit : Bool → ℕ
-bit true = 1
-bit false = 0
-
 -- Enter y, 01's step 2
 abbrev pub enters : ℕ → Step → Bool
 enters y (Ask s) = false
@@ -225,19 +212,19 @@ underWay t i j =
 -- "at most one station holds the turn"
 abbrev pub OneHolder : Engine → ℕ → Type 0
 OneHolder E n =
-    (xs : List Step) (i j : ℕ) → Numbered n i → Numbered n j
+    (xs : List Step) (i j : ℕ) → In n i → In n j
     → headIn (reached E n xs) (i - 1) .place ≡ HOLDING → headIn (reached E n xs) (j - 1) .place ≡ HOLDING → i ≡ j
 
 -- demand 3 for the count n, sentence by sentence. An engine that does nothing meets it too: it is demand 2 that shuts such engines out (Useless.antt)
 pub record Demand3At (E : Engine) (n : ℕ) : Type 0 where
   pub one-holder : OneHolder E n
   -- "the first's request under way, its mark at the second and the second's answer under way come to one at most"
-  pub one-errand : (xs : List Step) (i j : ℕ) → Numbered n i → Numbered n j → underWay (reached E n xs) i j ≤ 1
+  pub one-errand : (xs : List Step) (i j : ℕ) → In n i → In n j → underWay (reached E n xs) i j ≤ 1
   -- "Once Y has taken in Z's request of a round, Y enters at most once before Z enters in that round"
   pub one-entry : (xs : List Step) (y z : ℕ) → E .answer n (reached E n xs) (TakeRequest y z) ≡ ACCEPTED → (ys : List Step)
       → entries E n z (E .after n (reached E n xs) (TakeRequest y z)) ys ≡ 0
       → entries E n y (E .after n (reached E n xs) (TakeRequest y z)) ys ≤ 1
 
--- demand 3: for every count
+-- demand 3: for "a network of 2 to 32 stations"
 abbrev pub Demand3 : Engine → Type 0
-Demand3 E = (n : ℕ) → Count n → Demand3At E n
+Demand3 E = (n : ℕ) → countOk n ≡ true → Demand3At E n

@@ -6,18 +6,20 @@ use Prim.Native.Nat.{ℕ, _<_}
 use Rattle.station.specs.declared.Head.{Head}
 use Rattle.station.specs.declared.Cells.{Cells}
 use Rattle.station.specs.declared.Station.{Station}
-use Rattle.station.specs.declared.Outcome.{Outcome}
+use Rattle.rows.specs.declared.Outcome.{Outcome}
 use Rattle.station.specs.declared.Step.{Step}
-use Rattle.station.specs.Rules.{countOk, isStation, stationsOk, namedBy, peerOf, indexOf, outcome}
-use Rattle.station.specs.Form.{newStation, recordOk}
+use Rattle.station.specs.Stations.{countOk, isStation, stationsOk, namedBy, peerOf, indexOf, isAsking}
+use Rattle.rows.specs.Rows.{outcome}
+use Rattle.form.specs.Form.{newStation, recordOk}
 use Rattle.table.specs.Table.{openAnswer, openAfter, wellFormed, answer, after, holder, headOf}
 use Rattle.frames.specs.declared.Byte.{Byte}
 use Rattle.frames.specs.declared.Pair.{Pair}
 use Rattle.frames.specs.declared.Frame.{Frame}
 use Rattle.frames.specs.Frames.{byteOf, pairOf, meaningOf, frameAt}
-use Rattle.session.specs.declared.Opened.{Opened}
-use Rattle.session.specs.declared.Turned.{Turned}
-use Rattle.session.specs.Session.{openedFor, turnOf, roomFor, Ran}
+use Rattle.network.specs.declared.Opened.{Opened}
+use Rattle.network.specs.declared.Stepped.{Stepped}
+use Rattle.network.specs.Network.{openedFor, steppedBy}
+use Rattle.session.specs.Session.{roomFor, Ran}
 
 -- 01, "Contracts that admit one outcome": "any two results allowed by it are equal"
 abbrev pub Fixes : {A : Type 0} → (A → Type 0) → Type 0
@@ -32,7 +34,10 @@ pub record OneOutcome : Type 0 where
   pub named-by : (x : Step) → Fixes {A = ℕ} (λ r. r ≡ namedBy x)
   pub peer-of : (x : Step) (next : ℕ) → Fixes {A = ℕ} (λ r. r ≡ peerOf x next)
   pub index-of : (s : ℕ) → Fixes {A = ℕ} (λ r. (r ≡ indexOf s) × (r < 32))
+  pub is-asking : (place : ℕ) → Fixes {A = Bool} (λ r. r ≡ isAsking place)
+  -- rows
   pub act : (n : ℕ) (x : Step) (head : Head) (mine theirs : Cells) → Fixes {A = Outcome} (λ r. r ≡ outcome n x head mine theirs)
+  -- form
   pub new-station : Fixes {A = Station} (λ r. r ≡ newStation)
   pub record-ok : (n s : ℕ) (r : Station) → Fixes {A = Bool} (λ b. b ≡ recordOk n s r)
   -- table
@@ -46,8 +51,9 @@ pub record OneOutcome : Type 0 where
   pub pair-of : (byte : ℕ) → Fixes {A = Pair} (λ r. r ≡ pairOf byte)
   pub meaning-of : (kind station other : ℕ) → Fixes {A = Frame} (λ r. r ≡ meaningOf kind station other)
   pub frame-at : (input : List ℕ) (at : ℕ) → Fixes {A = Frame} (λ r. r ≡ frameAt input at)
+  -- network
+  pub open-network : (n : ℕ) → Fixes {A = Opened} (λ r. r ≡ openedFor n)
+  pub step-network : (t : List Station) (n : ℕ) (x : Step) → Fixes {A = Stepped} (λ r. r ≡ steppedBy t n x)
   -- session; of `run` the outcome is the count and the whole output buffer
-  pub opened-table : (n : ℕ) → Fixes {A = Opened} (λ r. r ≡ openedFor n)
-  pub turn : (t : List Station) (n : ℕ) (x : Step) → Fixes {A = Turned} (λ r. r ≡ turnOf t n x)
   pub room-for : (len : ℕ) → Fixes {A = ℕ} (λ r. r ≡ roomFor len)
   pub run : (input old : List ℕ) → Fixes {A = ℕ × List ℕ} (λ o. Ran input old (o .1) (o .0))

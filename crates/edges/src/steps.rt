@@ -42,7 +42,7 @@ fn show_line(code: u8, place: u8, due: u8, holder: usize) {
 }
 
 pub fn open_with(n: usize) {
-    let opened = session::open_table(n);
+    let opened = network::open(n);
     show_number(b"open ", n);
     show_line(opened.code, 0, 0, 0);
     io::write_all(1, b"\n");
@@ -50,13 +50,13 @@ pub fn open_with(n: usize) {
 
 // One step in a network of two, with the station's own number behind its line.
 fn take(table: [Station; STATIONS], step: Step) -> [Station; STATIONS] {
-    let turned = session::turn(table, 2, step);
-    let head = turned.head;
+    let stepped = network::step(table, 2, step);
+    let head = stepped.head;
     show_step(step);
-    show_line(turned.code, head.place, head.due, turned.holder);
+    show_line(stepped.code, head.place, head.due, stepped.holder);
     show_number(b" number ", head.own as usize);
     io::write_all(1, b"\n");
-    turned.table
+    stepped.table
 }
 
 // A station that asked sends to the end.
@@ -82,7 +82,7 @@ fn ask_again(table: [Station; STATIONS]) -> [Station; STATIONS] {
 
 // 01's last edge: both ask with number 1, and 1 has its turn again and again until it takes 2's request.
 pub fn repeat_the_tie() {
-    let opened = session::open_table(2);
+    let opened = network::open(2);
     let new = opened.table;
     let asked = take(take(new, Step::Ask(1)), Step::Ask(2));
     let passed = pass_by(send_all(send_all(asked, 1), 2));
@@ -91,7 +91,7 @@ pub fn repeat_the_tie() {
 
 // A table of two stations: the head of station 1, its cells for 2, and 2's cells for 1.
 fn doctored(head: Head, mine: Cells, theirs: Cells) -> [Station; STATIONS] {
-    let opened = session::open_table(2);
+    let opened = network::open(2);
     let mut table = opened.table;
     let first = table[0];
     let mut cells = first.cells;

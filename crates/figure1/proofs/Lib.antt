@@ -1,10 +1,10 @@
 -- What holds of the program of Figure 1, and what its proofs share.
-pub mod Claims
 pub mod Sums
-pub mod Invariant
+pub mod Enabled
+pub mod Errands
 pub mod Frame
-pub mod Statements
-pub mod Takes
+pub mod Counting
+pub mod Order
 pub mod Reached
 pub mod Theorems
 pub mod Slots

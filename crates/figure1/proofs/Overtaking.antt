@@ -1,7 +1,7 @@
 -- Once node y has taken z's request, y enters at most once before z does.
 use mathlib.Core.Path.{_≡_, refl, sym, ap, _∙_}
 use mathlib.Core.Logic.{_≢_, _⊎_, inl, inr, ⊎-elim}
-use mathlib.Core.Bool.{Bool, true, false, cond, false≢true, _&&_, _||_}
+use mathlib.Core.Bool.{Bool, true, false, cond, false≢true, _&&_, _||_, and-eq-true-iff}
 use mathlib.Core.List.{List}
 use Prim.Native.Nat.{ℕ, _+_, _≤_, _<_}
 use native.Mathlib.Nat.{le-refl}
@@ -9,12 +9,14 @@ use native.Mathlib.Omega.{arith}
 use native.Mathlib.Decide.{ℕ-discrete}
 use lib.Dec.{leb, eqb}
 use borrow.Author.Tests.{eqb-true, eq-eqb}
-use Rattle.figure1.specs.Figure1.{Location, m1, m2, m31, m32, m4, m5, m6, m71, m72, Node, State, Label, M, q1, r1, can, does, main, passes, put, first, deferred, grants, goto, counted, Run, stop, move, initial}
-use Rattle.figure1.proofs.Claims.{bit, In, is, sending, asking, weight, enters, entries}
+use Rattle.figure1.specs.Figure1.{Location, m1, m2, m31, m32, m4, m5, m6, m71, m72, Node, State, Label, M, q1, r1, can, does, main, passes, put, first, at≔, rd≔, counted, grants, Run, stop, move, initial}
+use Rattle.figure1.specs.Assertions.{bit, In, is, sending, asking, weight, enters, entries}
 use Rattle.figure1.proofs.Sums.{sum-term, put-here, put-there}
-use Rattle.figure1.proofs.Invariant.{far, Own, Inv, outside}
-use Rattle.figure1.proofs.Takes.{higher}
-use Rattle.figure1.proofs.Reached.{both, is-location, can-main, can-take, keeps, reached}
+use Rattle.figure1.proofs.Enabled.{is-location, can-main, can-take}
+use Rattle.figure1.proofs.Errands.{far, outside}
+use Rattle.figure1.proofs.Counting.{Own, Counting, counts}
+use Rattle.figure1.proofs.Order.{Order, orders, higher}
+use Rattle.figure1.proofs.Reached.{counting, order}
 use Rattle.figure1.proofs.Theorems.{chain}
 
 -- m_31,32,4: asked, and not yet entered
@@ -22,13 +24,13 @@ abbrev waits : Location → Bool
 waits l = sending l || is l m4
 
 -- what a transition that is no entry makes of one node
-record Turn (N : ℕ) (entry : Bool) (a b : Node) : Type 0 where
+record Moved (N : ℕ) (entry : Bool) (a b : Node) : Type 0 where
   stays : entry ≡ false → bit (waits (a .at)) ≡ 1 → (bit (waits (b .at)) ≡ 1) × (far N a ≤ far N b) × (b .osn ≡ a .osn)
   rises : a .hsn ≤ b .hsn
   fresh : bit (waits (b .at)) ≡ 1 → ((bit (waits (a .at)) ≡ 1) × (b .osn ≡ a .osn)) ⊎ (a .hsn < b .osn)
 
 -- a node that stays where it is
-still : {N : ℕ} {entry : Bool} {a b : Node} → b .at ≡ a .at → b .p ≡ a .p → b .osn ≡ a .osn → a .hsn ≤ b .hsn → Turn N entry a b
+still : {N : ℕ} {entry : Bool} {a b : Node} → b .at ≡ a .at → b .p ≡ a .p → b .osn ≡ a .osn → a .hsn ≤ b .hsn → Moved N entry a b
 still e p o h = record {
   stays = λ _ w. rw (e, p) (w, le-refl _, o);
   rises = h;
@@ -36,59 +38,59 @@ still e p o h = record {
 }
 
 -- a node that does not wait before, nor after
-idle : {N : ℕ} {entry : Bool} {a b : Node} → bit (waits (a .at)) ≡ 0 → bit (waits (b .at)) ≡ 0 → b .hsn ≡ a .hsn → Turn N entry a b
+idle : {N : ℕ} {entry : Bool} {a b : Node} → bit (waits (a .at)) ≡ 0 → bit (waits (b .at)) ≡ 0 → b .hsn ≡ a .hsn → Moved N entry a b
 idle e f h = record { stays = λ _ w. absurd (omega arith); rises = omega arith; fresh = λ w. absurd (omega arith) }
 
 -- and one that does both
 onward : {N : ℕ} {entry : Bool} {a b : Node} → bit (waits (a .at)) ≡ 1 → bit (waits (b .at)) ≡ 1 → far N a ≤ far N b → b .osn ≡ a .osn → b .hsn ≡ a .hsn
-    → Turn N entry a b
+    → Moved N entry a b
 onward e f r o h = record { stays = λ _ _. (f, r, o); rises = omega arith; fresh = λ _. inl (e, o) }
 
 waits-at : (a : Node) (l : Location) → a .at ≡ l → bit (waits (a .at)) ≡ bit (waits l)
 waits-at a l e = ap (λ (k : Location). bit (waits k)) e
 
 module _ (N s T : ℕ) (a : Node) (o : Own N s a T) where
-  main-turn : (l : Location) → a .at ≡ l → Turn N (is l m4) a (main N s l a)
-  main-turn m1 e = idle (waits-at a m1 e) refl refl
-  main-turn m2 e = record { stays = λ _ w. absurd (omega (arith, waits-at a m2 e)); rises = le-refl _; fresh = λ w. inr (omega arith) }
-  main-turn m31 e =
+  main-moves : (l : Location) → a .at ≡ l → Moved N (is l m4) a (main N s l a)
+  main-moves m1 e = idle (waits-at a m1 e) refl refl
+  main-moves m2 e = record { stays = λ _ w. absurd (omega (arith, waits-at a m2 e)); rises = le-refl _; fresh = λ w. inr (omega arith) }
+  main-moves m31 e =
       let v = outside N a m31 e .far-at in
-      elim (leb (a .p) N) as (λ b. Turn N false a (goto (cond b m32 m4) a)) [
+      elim (leb (a .p) N) as (λ b. Moved N false a (at≔ (cond b m32 m4) a)) [
         | true ↦ onward (waits-at a m31 e) refl (omega arith) refl refl
         | false ↦ onward (waits-at a m31 e) refl (omega (arith, o .p-high)) refl refl
       ]
-  main-turn m32 e = onward (waits-at a m32 e) refl (omega (arith, outside N a m32 e .far-at)) refl refl
-  main-turn m4 e = record { stays = λ n w. absurd (omega (arith, ap bit n)); rises = le-refl _; fresh = λ w. absurd (omega arith) }
-  main-turn m5 e = idle (waits-at a m5 e) refl refl
-  main-turn m6 e = idle (waits-at a m6 e) refl refl
-  main-turn m71 e = elim (leb (a .p) N) as (λ b. Turn N false a (goto (cond b m72 m1) a)) [
+  main-moves m32 e = onward (waits-at a m32 e) refl (omega (arith, outside N a m32 e .far-at)) refl refl
+  main-moves m4 e = record { stays = λ n w. absurd (omega (arith, ap bit n)); rises = le-refl _; fresh = λ w. absurd (omega arith) }
+  main-moves m5 e = idle (waits-at a m5 e) refl refl
+  main-moves m6 e = idle (waits-at a m6 e) refl refl
+  main-moves m71 e = elim (leb (a .p) N) as (λ b. Moved N false a (at≔ (cond b m72 m1) a)) [
     | true ↦ idle (waits-at a m71 e) refl refl
     | false ↦ idle (waits-at a m71 e) refl refl
   ]
-  main-turn m72 e = elim (a .rd (a .p)) as (λ b. Turn N false a (counted m71 (cond b (deferred (a .p) false a) a))) [
+  main-moves m72 e = elim (a .rd (a .p)) as (λ b. Moved N false a (counted m71 (cond b (rd≔ (a .p) false a) a))) [
     | true ↦ idle (waits-at a m72 e) refl refl
     | false ↦ idle (waits-at a m72 e) refl refl
   ]
 
 -- a transition of s, seen from any node k
-seen-from : {N : ℕ} {entry : Bool} (σ : State) (s : ℕ) (b : Node) (k : ℕ) → (k ≡ s → Turn N entry (σ .node s) b)
-    → Turn N entry (σ .node k) (put (σ .node) s b k)
+seen-from : {N : ℕ} {entry : Bool} (σ : State) (s : ℕ) (b : Node) (k : ℕ) → (k ≡ s → Moved N entry (σ .node s) b)
+    → Moved N entry (σ .node k) (put (σ .node) s b k)
 seen-from σ s b k h = elim (ℕ-discrete k s) [
   | yes e ↦ rw (e, put-here) (h e)
   | no d ↦ rw put-there (still refl refl refl (le-refl _))
 ]
 
-turn : (N : ℕ) (σ : State) (x : Label) (k : ℕ) → can N σ x ≡ true → Inv N σ → Turn N (enters k x) (σ .node k) (does N σ x .node k)
+moves : (N : ℕ) (σ : State) (x : Label) (k : ℕ) → can N σ x ≡ true → Counting N σ → Moved N (enters k x) (σ .node k) (does N σ x .node k)
 unfolding does
-turn N σ (M l s) k e I = seen-from σ s _ k (λ q.
+moves N σ (M l s) k e C = seen-from σ s _ k (λ q.
     let c = can-main N σ l s e in
-    rw (eq-eqb s k (sym q)) (main-turn N s _ (σ .node s) (I .own s (c .0)) l (c .1)))
-turn N σ (q1 s t) k e I = go (grants s t (first (σ .chq t s)) (σ .node s)) refl
+    rw (eq-eqb s k (sym q)) (main-moves N s _ (σ .node s) (C .own s (c .0)) l (c .1)))
+moves N σ (q1 s t) k e C = go (grants s t (first (σ .chq t s)) (σ .node s)) refl
   where
-    go : (b : Bool) → grants s t (first (σ .chq t s)) (σ .node s) ≡ b → Turn N false (σ .node k) (does N σ (q1 s t) .node k)
+    go : (b : Bool) → grants s t (first (σ .chq t s)) (σ .node s) ≡ b → Moved N false (σ .node k) (does N σ (q1 s t) .node k)
     go true q = rw q (seen-from σ s _ k (λ _. still refl refl refl (higher _ _ .0)))
     go false q = rw q (seen-from σ s _ k (λ _. still refl refl refl (higher _ _ .0)))
-turn N σ (r1 s u) k e I = seen-from σ s _ k (λ _. still refl refl refl (le-refl _))
+moves N σ (r1 s u) k e C = seen-from σ s _ k (λ _. still refl refl refl (le-refl _))
 
 -- z still waits for y, and y knows z's number
 record Behind (N y : ℕ) (a b : Node) : Type 0 where
@@ -121,7 +123,7 @@ unentered false n e = refl
 passed-by : (N : ℕ) (σ : State) (x : Label) (y : ℕ) → can N σ x ≡ true → enters y x ≡ true → (σ .node y .at ≡ m4) × (σ .node y .c ≡ 0)
 passed-by N σ (M l s) y e q =
     let c = can-main N σ l s e in
-    let b = both (eqb s y) (is l m4) q in
+    let b = and-eq-true-iff (eqb s y) _ .0 q in
     let k = is-location l m4 (b .1) in
     let f = eqb-true s y (b .0) in
     let g : passes m4 (σ .node s) ≡ true = rw k at (c .2) in
@@ -132,27 +134,27 @@ passed-by N σ (r1 s u) y e q = absurd (false≢true q)
 spent : (N : ℕ) (σ : State) (x : Label) (y : ℕ) → enters y x ≡ true → bit (waits (does N σ x .node y .at)) ≡ 0
 unfolding does
 spent N σ (M l s) y q =
-    let b = both (eqb s y) (is l m4) q in
+    let b = and-eq-true-iff (eqb s y) _ .0 q in
     rw (← (eqb-true s y (b .0)), is-location l m4 (b .1), put-here)
 spent N σ (q1 s t) y q = absurd (false≢true q)
 spent N σ (r1 s u) y q = absurd (false≢true q)
 
 module _ (N y z : ℕ) (Y : In N y) (Z : In N z) (apart : y ≢ z) where
   -- any transition but z's entry
-  behind : (σ : State) (x : Label) → Inv N σ → can N σ x ≡ true → enters z x ≡ false → Behind N y (σ .node z) (σ .node y)
+  behind : (σ : State) (x : Label) → Counting N σ → can N σ x ≡ true → enters z x ≡ false → Behind N y (σ .node z) (σ .node y)
       → Behind N y (does N σ x .node z) (does N σ x .node y)
       × (Late (σ .node z) (σ .node y) → Late (does N σ x .node z) (does N σ x .node y))
-  behind σ x I e n B =
-      let u = turn N σ x z e I .stays n (B .wants) in
-      let v = turn N σ x y e I in (
+  behind σ x C e n B =
+      let u = moves N σ x z e C .stays n (B .wants) in
+      let v = moves N σ x y e C in (
         record { wants = u .0; gone = omega (arith, B .gone, u .1); known = omega (arith, B .known, u .2, v .rises) },
         λ L w. ⊎-elim (λ q. omega (arith, L (q .0), q .1, u .2)) (λ q. omega (arith, q, B .known, u .2)) (v .fresh w),
       )
 
   -- y cannot pass m4 with a request that comes after z's
-  barred : (σ : State) (x : Label) → Inv N σ → can N σ x ≡ true → Behind N y (σ .node z) (σ .node y) → Late (σ .node z) (σ .node y)
+  barred : (σ : State) (x : Label) → Counting N σ → Order N σ → can N σ x ≡ true → Behind N y (σ .node z) (σ .node y) → Late (σ .node z) (σ .node y)
       → bit (enters y x) ≡ 0
-  barred σ x I e B L = go (enters y x) refl
+  barred σ x C O e B L = go (enters y x) refl
     where
       go : (b : Bool) → enters y x ≡ b → bit b ≡ 0
       go false q = refl
@@ -161,29 +163,30 @@ module _ (N y z : ℕ) (Y : In N y) (Z : In N z) (apart : y ≢ z) where
           let w = waits-at (σ .node y) m4 (c .0) in
           let v = outside N (σ .node y) m4 (c .0) .far-at in
           let n : weight σ y z ≡ 0 =
-          omega (arith, c .1, I .own y Y .c-is, sum-term N z (λ k. weight σ y k) (Z .low) (Z .high)) in
+          omega (arith, c .1, C .own y Y .c-is, sum-term N z (λ k. weight σ y k) (Z .low) (Z .high)) in
           let r : bit (σ .node z .rcs) ≡ 1 =
-          omega (arith, I .own z Z .rcs-is, waits-asks (σ .node z .at) (B .wants)) in
-          let b = I .pair y z Y Z apart .allowed (omega (arith, Z .high)) (omega arith) (omega arith) r in
+          omega (arith, C .own z Z .rcs-is, waits-asks (σ .node z .at) (B .wants)) in
+          let b = O y z Y Z apart .allowed (omega (arith, Z .high)) (omega arith) (omega arith) r in
           absurd (omega (arith, b, L w))
 
-  none : {σ τ : State} {ks : List Label} → Run N σ ks τ → Inv N σ → Behind N y (σ .node z) (σ .node y) → Late (σ .node z) (σ .node y)
+  none : {σ τ : State} {ks : List Label} → Run N σ ks τ → Counting N σ → Order N σ → Behind N y (σ .node z) (σ .node y) → Late (σ .node z) (σ .node y)
       → entries z ks ≡ 0 → entries y ks ≡ 0
   unfolding entries
-  none stop I B L h = refl
-  none (move {σ = σ} {l = x} e Q) I B L h =
-      let b = behind σ x I e (unentered (enters z x) _ h) B in
-      omega (arith, barred σ x I e B L, none Q (keeps N σ x e I) (b .0) (b .1 L) (omega arith))
+  none stop C O B L h = refl
+  none (move {σ = σ} {l = x} e Q) C O B L h =
+      let b = behind σ x C e (unentered (enters z x) _ h) B in
+      omega (arith, barred σ x C O e B L, none Q (counts N σ x e C) (orders N σ x e C O) (b .0) (b .1 L) (omega arith))
 
-  once : {σ τ : State} {ks : List Label} → Run N σ ks τ → Inv N σ → Behind N y (σ .node z) (σ .node y) → entries z ks ≡ 0 → entries y ks ≤ 1
+  once : {σ τ : State} {ks : List Label} → Run N σ ks τ → Counting N σ → Order N σ → Behind N y (σ .node z) (σ .node y) → entries z ks ≡ 0 → entries y ks ≤ 1
   unfolding entries
-  once stop I B h = omega arith
-  once (move {σ = σ} {l = x} {ls = xs} e Q) I B h =
-      let J = keeps N σ x e I in
-      let b = behind σ x I e (unentered (enters z x) _ h) B in
+  once stop C O B h = omega arith
+  once (move {σ = σ} {l = x} {ls = xs} e Q) C O B h =
+      let D = counts N σ x e C in
+      let P = orders N σ x e C O in
+      let b = behind σ x C e (unentered (enters z x) _ h) B in
       (elim (enters y x) as (λ u. enters y x ≡ u → bit u + entries y xs ≤ 1) [
-        | true ↦ λ q. omega (arith, none Q J (b .0) (λ w. absurd (omega (arith, spent N σ x y q))) (omega arith))
-        | false ↦ λ q. omega (arith, once Q J (b .0) (omega arith))
+        | true ↦ λ q. omega (arith, none Q D P (b .0) (λ w. absurd (omega (arith, spent N σ x y q))) (omega arith))
+        | false ↦ λ q. omega (arith, once Q D P (b .0) (omega arith))
       ]) refl
 
 heard : (N : ℕ) (σ : State) (s t : ℕ) → first (σ .chq t s) ≤ does N σ (q1 s t) .node s .hsn
@@ -199,12 +202,13 @@ pub overtaking : {N : ℕ} {ls ks : List Label} {σ τ : State} (y z : ℕ) → 
     → entries z ks ≡ 0 → entries y ks ≤ 1
 unfolding can
 overtaking {N = N} {σ = σ} y z R e Q h =
-    let I = reached R in
+    let C = counting R in
+    let O = order R in
     let c = can-take N y z (σ .chq z y) e in
     let n : 1 ≤ weight σ z y = omega (arith, c .2) in
-    let apart : y ≢ z = λ k. omega (arith, n, ap (λ (j : ℕ). weight σ z j) k, I .self z (c .1)) in
-    let r = I .pair z y (c .1) (c .0) (λ k. apart (sym k)) in
-    let w = some-way (sending (σ .node z .at)) (is (σ .node z .at) m4) _ (weight σ z y) n (chain I z y (c .1) (c .0)) in
-    let u = turn N σ (q1 y z) z e I .stays refl w in
-    once N y z (c .0) (c .1) apart Q (keeps N σ (q1 y z) e I)
-    (record { wants = u .0; gone = omega (arith, r .chain, u .1); known = omega (arith, u .2, r .value (c .2), heard N σ y z) }) h
+    let apart : y ≢ z = λ k. omega (arith, n, ap (λ (j : ℕ). weight σ z j) k, C .self z (c .1)) in
+    let r = O z y (c .1) (c .0) (λ k. apart (sym k)) in
+    let w = some-way (sending (σ .node z .at)) (is (σ .node z .at) m4) _ (weight σ z y) n (chain C z y (c .1) (c .0)) in
+    let u = moves N σ (q1 y z) z e C .stays refl w in
+    once N y z (c .0) (c .1) apart Q (counts N σ (q1 y z) e C) (orders N σ (q1 y z) e C O)
+    (record { wants = u .0; gone = omega (arith, C .chain z y (c .1) (c .0) (λ k. apart (sym k)), u .1); known = omega (arith, u .2, r .value (c .2), heard N σ y z) }) h

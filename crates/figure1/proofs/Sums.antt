@@ -8,7 +8,7 @@ use native.Mathlib.Decide.{ℕ-discrete}
 use borrow.Author.Tests.{eq-eqb, ne-eqb}
 use lib.Dec.{eqb}
 use Rattle.figure1.specs.Figure1.{put, put₂}
-use Rattle.figure1.proofs.Claims.{sum}
+use Rattle.figure1.specs.Assertions.{sum}
 
 pub sum-equal : (n : ℕ) (f g : ℕ → ℕ) → ((k : ℕ) → k ≤ n → f k ≡ g k) → sum n f ≡ sum n g
 unfolding sum

@@ -1,19 +1,21 @@
 -- Section 3 of source 003, and two assertions of its section 5: true in every state that a run from the start reaches, for every N.
 use mathlib.Core.Path.{_≡_, refl, sym, ap}
 use mathlib.Core.Logic.{_≢_, _⊎_, inl, inr}
-use mathlib.Core.Bool.{Bool, true, false, false≢true, _&&_, _||_}
+use mathlib.Core.Bool.{Bool, true, false, false≢true, not, _&&_, _||_, and-eq-true-iff}
 use mathlib.Core.List.{List}
 use Prim.Native.Nat.{ℕ, _+_, _≤_, _<_}
 use native.Mathlib.Omega.{arith}
 use native.Mathlib.Decide.{ℕ-discrete, decLt}
 use lib.ListN.{length}
-use lib.Dec.{ltb}
+use lib.Dec.{eqb, ltb}
 use borrow.Author.Tests.{ltb-true, ltb-false, eqb-true, eqb-false, not-true}
 use Rattle.figure1.specs.Figure1.{Location, m1, m2, m31, m32, m4, m5, m6, m71, m72, State, Label, Run, initial, first}
-use Rattle.figure1.proofs.Claims.{bit, In, sum, is, sending, asking, looping, entered, weight, unsent, request-received, granted, Lower}
+use Rattle.figure1.specs.Assertions.{bit, In, sum, is, sending, asking, looping, entered, weight, unsent, requested, request-received, granted, Lower}
 use Rattle.figure1.proofs.Sums.{sum-term}
-use Rattle.figure1.proofs.Invariant.{past, Before, reach, far, most, floor, Inv, bit-same}
-use Rattle.figure1.proofs.Reached.{both, reached}
+use Rattle.figure1.proofs.Errands.{past, Before, reach, far, most, floor, bit-same}
+use Rattle.figure1.proofs.Counting.{Counting}
+use Rattle.figure1.proofs.Order.{Order}
+use Rattle.figure1.proofs.Reached.{counting, order}
 
 -- ---- the invariant's numbers, and the tests of the statements
 past-is : (p j : ℕ) → bit (ltb j p) ≡ past p j
@@ -71,70 +73,67 @@ given-all N m6 p j h e = absurd (false≢true e)
 given-all N m71 p j h e = ltb-true j p e
 given-all N m72 p j h e = ltb-true j p e
 
-module _ {N : ℕ} {σ : State} (I : Inv N σ) (i j : ℕ) (H : In N i) (J : In N j) where
+module _ {N : ℕ} {σ : State} (C : Counting N σ) (i j : ℕ) (H : In N i) (J : In N j) where
   -- a node to which no reply can be due has nothing under way
   at-rest : most N (σ .node i .at) ≡ 0 → weight σ i j ≡ 0
-  at-rest e = omega (arith, I .own i H .c-high, I .own i H .c-is, sum-term N j (λ k. weight σ i k) (J .low) (J .high))
+  at-rest e = omega (arith, C .own i H .c-high, C .own i H .c-is, sum-term N j (λ k. weight σ i k) (J .low) (J .high))
 
   pub chain : weight σ i j ≤ bit (sending (σ .node i .at) && ltb j (σ .node i .p)) + bit (is (σ .node i .at) m4)
   chain = elim (ℕ-discrete i j) [
-    | yes e ↦ let z : weight σ i j ≡ 0 = rw (← e) (I .self i H) in omega arith
-    | no d ↦ under-way N (σ .node i .at) (σ .node i .p) j (weight σ i j) (I .pair i j H J d .chain) at-rest
-  ]
-
-  pub light : weight σ i j ≤ 1
-  light = elim (ℕ-discrete i j) [
-    | yes e ↦ let z : weight σ i j ≡ 0 = rw (← e) (I .self i H) in omega arith
-    | no d ↦ omega (arith, I .pair i j H J d .chain)
+    | yes e ↦ let z : weight σ i j ≡ 0 = rw (← e) (C .self i H) in omega arith
+    | no d ↦ under-way N (σ .node i .at) (σ .node i .p) j (weight σ i j) (C .chain i j H J d) at-rest
   ]
 
   received : request-received σ i j ≡ true → (i ≢ j) × (j < far N (σ .node i)) × (length (σ .chq i j) ≡ 0)
   received r =
-      let b = both _ _ r in
-      let c = both _ _ (b .0) in
+      let b = and-eq-true-iff (requested σ i j) _ .0 r in
+      let c = and-eq-true-iff (not (eqb i j)) _ .0 (b .0) in
       (eqb-false i j (not-true _ (c .0)), gone-out N (σ .node i .at) (σ .node i .p) j (J .high) (c .1), eqb-true _ _ (b .1))
 
   -- of two nodes that are both in, the one is before the other
-  first-in : i ≢ j → entered (σ .node i .at) ≡ true → entered (σ .node j .at) ≡ true → Before (σ .node i .osn) i (σ .node j .osn) j
-  first-in d e f =
+  first-in : Order N σ → i ≢ j → entered (σ .node i .at) ≡ true → entered (σ .node j .at) ≡ true → Before (σ .node i .osn) i (σ .node j .osn) j
+  first-in O d e f =
       let u = inside N (σ .node i .at) (σ .node i .p) e in
       let v = inside N (σ .node j .at) (σ .node j .p) f in
       let z = at-rest (u .1) in
-      I .pair i j H J d .allowed (omega (arith, u .0, J .high)) (omega arith) (omega arith) (omega (arith, v .2, I .own j J .rcs-is))
+      O i j H J d .allowed (omega (arith, u .0, J .high)) (omega arith) (omega arith) (omega (arith, v .2, C .own j J .rcs-is))
 
 module _ {N : ℕ} {ls : List Label} {σ : State} (R : Run N initial ls σ) where
-  I : Inv N σ
-  I = reached R
+  C : Counting N σ
+  C = counting R
+
+  O : Order N σ
+  O = order R
 
   -- "1 ≤ p[i] ≤ N + 1 − m_32,72[i]"
   pub p-range : (i : ℕ) → In N i → (1 ≤ σ .node i .p) × (σ .node i .p + bit (looping (σ .node i .at)) ≤ N + 1)
-  p-range i H = (I .own i H .p-low, I .own i H .p-high)
+  p-range i H = (C .own i H .p-low, C .own i H .p-high)
 
   -- "m_31,32,4,5,6[i] ↔ rcs[i]"
   pub rcs-range : (i : ℕ) → In N i → σ .node i .rcs ≡ asking (σ .node i .at)
-  rcs-range i H = bit-same _ _ (I .own i H .rcs-is)
+  rcs-range i H = bit-same _ _ (C .own i H .rcs-is)
 
   -- "(m_31,32[i] ∧ p[i] > j) + m_4[i] ≥ |chq[i, j]| + rd[j, i] + |chp[j, i]|"
   pub message-chain : (i j : ℕ) → In N i → In N j
       → weight σ i j ≤ bit (sending (σ .node i .at) && ltb j (σ .node i .p)) + bit (is (σ .node i .at) m4)
-  message-chain i j H J = chain I i j H J
+  message-chain i j H J = chain C i j H J
 
   -- "c[i] = Σ_k |chq[i, k]| + rd[k, i] + |chp[k, i]| + m_31,32[i] · (N − p[i] + (p[i] > i))"
   pub c-range : (i : ℕ) → In N i → σ .node i .c ≡ sum N (λ k. weight σ i k) + unsent N σ i
-  c-range i H = rw (past-is (σ .node i .p) i) (I .own i H .c-is)
+  c-range i H = rw (past-is (σ .node i .p) i) (C .own i H .c-is)
 
   -- "|chq[i, j]| > 0 → head(chq[i, j]) = osn[i]"
   pub request-in-channel : (i j : ℕ) → In N i → In N j → 0 < length (σ .chq i j) → first (σ .chq i j) ≡ σ .node i .osn
   request-in-channel i j H J h = elim (ℕ-discrete i j) [
-    | yes e ↦ let z : weight σ i j ≡ 0 = rw (← e) (I .self i H) in absurd (omega arith)
-    | no d ↦ I .pair i j H J d .value h
+    | yes e ↦ let z : weight σ i j ≡ 0 = rw (← e) (C .self i H) in absurd (omega arith)
+    | no d ↦ O i j H J d .value h
   ]
 
   -- "request_received(i, j) → osn[i] ≤ hsn[j]"
   pub hsn-highest : (i j : ℕ) → In N i → In N j → request-received σ i j ≡ true → σ .node i .osn ≤ σ .node j .hsn
   hsn-highest i j H J r =
-      let q = received I i j H J r in
-      I .pair i j H J (q .0) .seen (q .1) (q .2)
+      let q = received C i j H J r in
+      O i j H J (q .0) .seen (q .1) (q .2)
 
   -- "granted(i, j) → ¬rcs[j] ∨ (osn[i], i) ≺ (osn[j], j)"
   pub permitted : (i j : ℕ) → In N i → In N j → granted σ i j ≡ true
@@ -144,16 +143,16 @@ module _ {N : ℕ} {ls : List Label} {σ : State} (R : Run N initial ls σ) wher
       go : (b : Bool) → σ .node j .rcs ≡ b → (b ≡ false) ⊎ Lower (σ .node i .osn) i (σ .node j .osn) j
       go false e = inl refl
       go true e =
-          let m = both _ _ g in
-          let q = received I i j H J (m .0) in
+          let m = and-eq-true-iff (request-received σ i j) _ .0 g in
+          let q = received C i j H J (m .0) in
           let z : bit (σ .node j .rd i) ≡ 0 = ap bit (not-true (σ .node j .rd i) (m .1)) in
-          inr (lower _ i _ j (q .0) (I .pair i j H J (q .0) .allowed (q .1) (q .2) z (ap bit e)))
+          inr (lower _ i _ j (q .0) (O i j H J (q .0) .allowed (q .1) (q .2) z (ap bit e)))
 
   -- as excl, with m6 too: rcs falls only on the way out of it
   pub excl-or-leaving : (i j : ℕ) → In N i → In N j → entered (σ .node i .at) ≡ true → entered (σ .node j .at) ≡ true → i ≡ j
   excl-or-leaving i j H J e f = elim (ℕ-discrete i j) [
     | yes z ↦ z
-    | no d ↦ absurd (omega (arith, first-in I i j H J d e f, first-in I j i J H (λ z. d (sym z)) f e))
+    | no d ↦ absurd (omega (arith, first-in C i j H J O d e f, first-in C j i J H O (λ z. d (sym z)) f e))
   ]
 
   -- "m_5[i] ∧ m_5[j] → i = j"
@@ -161,13 +160,13 @@ module _ {N : ℕ} {ls : List Label} {σ : State} (R : Run N initial ls σ) wher
   excl i j H J e f = excl-or-leaving i j H J (ap entered e) (ap entered f)
 
   marked-apart : (i j : ℕ) → In N i → σ .node i .rd j ≡ true → j ≢ i
-  marked-apart i j H m e = omega (arith, I .self i H, ap bit m, ap (λ (k : ℕ). bit (σ .node i .rd k)) e)
+  marked-apart i j H m e = omega (arith, C .self i H, ap bit m, ap (λ (k : ℕ). bit (σ .node i .rd k)) e)
 
   -- "rd[i, j] → (osn[i], i) ≺ (osn[j], j)"
   pub rd-osn : (i j : ℕ) → In N i → In N j → σ .node i .rd j ≡ true → Lower (σ .node i .osn) i (σ .node j .osn) j
   rd-osn i j H J m =
       let d = marked-apart i j H m in
-      lower _ i _ j (λ z. d (sym z)) (I .pair j i J H d .behind (ap bit m))
+      lower _ i _ j (λ z. d (sym z)) (O j i J H d .behind (ap bit m))
 
   -- "m_1,2[i] ∨ (m_71,72[i] ∧ p[i] > j) → ¬rd[i, j]"
   pub not-rd-range : (i j : ℕ) → In N i → In N j
@@ -178,4 +177,4 @@ module _ {N : ℕ} {ls : List Label} {σ : State} (R : Run N initial ls σ) wher
       go : (b : Bool) → σ .node i .rd j ≡ b → b ≡ false
       go false m = refl
       go true m =
-          absurd (omega (arith, I .pair j i J H (marked-apart i j H m) .kept (ap bit m), given-all N (σ .node i .at) (σ .node i .p) j (J .high) e))
+          absurd (omega (arith, O j i J H (marked-apart i j H m) .kept (ap bit m), given-all N (σ .node i .at) (σ .node i .p) j (J .high) e))

@@ -67,34 +67,55 @@ others (x ∷ q) = q
 abbrev pub receive : (ℕ → ℕ → List ℕ) → ℕ → ℕ → ℕ → ℕ → List ℕ
 receive ch s t = put₂ ch s t (others (ch s t))
 
--- ---- what each statement makes of its node
--- m1, m4, m5: M goes on
-abbrev pub goto : Location → Node → Node
-goto l a = record { at = l; osn = a .osn; hsn = a .hsn; p = a .p; c = a .c; rcs = a .rcs; rd = a .rd }
+-- ---- assignments: x≔ v a is the node a after "x := v", all else as it was
+-- M goes on to a location
+abbrev pub at≔ : Location → Node → Node
+at≔ l a = record { at = l; osn = a .osn; hsn = a .hsn; p = a .p; c = a .c; rcs = a .rcs; rd = a .rd }
 
+-- osn := v
+abbrev pub osn≔ : ℕ → Node → Node
+osn≔ v a = record { at = a .at; osn = v; hsn = a .hsn; p = a .p; c = a .c; rcs = a .rcs; rd = a .rd }
+
+-- hsn := v
+abbrev pub hsn≔ : ℕ → Node → Node
+hsn≔ v a = record { at = a .at; osn = a .osn; hsn = v; p = a .p; c = a .c; rcs = a .rcs; rd = a .rd }
+
+-- p := v
+abbrev pub p≔ : ℕ → Node → Node
+p≔ v a = record { at = a .at; osn = a .osn; hsn = a .hsn; p = v; c = a .c; rcs = a .rcs; rd = a .rd }
+
+-- c := v
+abbrev pub c≔ : ℕ → Node → Node
+c≔ v a = record { at = a .at; osn = a .osn; hsn = a .hsn; p = a .p; c = v; rcs = a .rcs; rd = a .rd }
+
+-- rcs := v
+abbrev pub rcs≔ : Bool → Node → Node
+rcs≔ v a = record { at = a .at; osn = a .osn; hsn = a .hsn; p = a .p; c = a .c; rcs = v; rd = a .rd }
+
+-- rd[t] := v
+abbrev pub rd≔ : ℕ → Bool → Node → Node
+rd≔ t v a = record { at = a .at; osn = a .osn; hsn = a .hsn; p = a .p; c = a .c; rcs = a .rcs; rd = put (a .rd) t v }
+
+-- ---- what each statement makes of its node
 -- m2: ⟨ rcs := T; osn := hsn + 1; c := N − 1; p := 1 ⟩
 abbrev pub asked : ℕ → Node → Node
-asked N a = record { at = m31; osn = a .hsn + 1; hsn = a .hsn; p = 1; c = N - 1; rcs = true; rd = a .rd }
+asked N a = at≔ m31 (p≔ 1 (c≔ (N - 1) (osn≔ (a .hsn + 1) (rcs≔ true a))))
 
 -- m32 and m72: p := p + 1, and back to the loop's test
 abbrev pub counted : Location → Node → Node
-counted l a = record { at = l; osn = a .osn; hsn = a .hsn; p = a .p + 1; c = a .c; rcs = a .rcs; rd = a .rd }
+counted l a = at≔ l (p≔ (a .p + 1) a)
 
 -- m6: ⟨ rcs := F; p := 1 ⟩
 abbrev pub released : Node → Node
-released a = record { at = m71; osn = a .osn; hsn = a .hsn; p = 1; c = a .c; rcs = false; rd = a .rd }
-
--- rd[t] := v
-abbrev pub deferred : ℕ → Bool → Node → Node
-deferred t v a = record { at = a .at; osn = a .osn; hsn = a .hsn; p = a .p; c = a .c; rcs = a .rcs; rd = put (a .rd) t v }
+released a = at≔ m71 (p≔ 1 (rcs≔ false a))
 
 -- if hsn < rq then hsn := rq
 abbrev pub raised : ℕ → Node → Node
-raised rq a = record { at = a .at; osn = a .osn; hsn = cond (ltb (a .hsn) rq) rq (a .hsn); p = a .p; c = a .c; rcs = a .rcs; rd = a .rd }
+raised rq a = hsn≔ (cond (ltb (a .hsn) rq) rq (a .hsn)) a
 
 -- c := c − 1
 abbrev pub replied : Node → Node
-replied a = record { at = a .at; osn = a .osn; hsn = a .hsn; p = a .p; c = a .c - 1; rcs = a .rcs; rd = a .rd }
+replied a = c≔ (a .c - 1) a
 
 -- (rq, t) < (osn, s) ∨ ¬rcs
 abbrev pub grants : ℕ → ℕ → ℕ → Node → Bool
@@ -113,7 +134,7 @@ number m6 = 6
 number m71 = 71
 number m72 = 72
 
--- s is a node: 1 to N
+-- s is a node: 1 to N. The rules have a test like it; the program has its own, so that it can be held against the paper alone
 abbrev pub isNode : ℕ → ℕ → Bool
 isNode N s = leb 1 s && leb s N
 
@@ -143,15 +164,15 @@ can N σ (r1 s u) = isNode N s && (isNode N u && some (σ .chp u s))
 -- ---- what it does
 -- node s after M's statement at l; the tests m31 and m71 go into the loop while p ≤ N, and past it else
 abbrev pub main : ℕ → ℕ → Location → Node → Node
-main N s m1 a = goto m2 a
+main N s m1 a = at≔ m2 a
 main N s m2 a = asked N a
-main N s m31 a = goto (cond (leb (a .p) N) m32 m4) a
+main N s m31 a = at≔ (cond (leb (a .p) N) m32 m4) a
 main N s m32 a = counted m31 a
-main N s m4 a = goto m5 a
-main N s m5 a = goto m6 a
+main N s m4 a = at≔ m5 a
+main N s m5 a = at≔ m6 a
 main N s m6 a = released a
-main N s m71 a = goto (cond (leb (a .p) N) m72 m1) a
-main N s m72 a = counted m71 (cond (a .rd (a .p)) (deferred (a .p) false a) a)
+main N s m71 a = at≔ (cond (leb (a .p) N) m72 m1) a
+main N s m72 a = counted m71 (cond (a .rd (a .p)) (rd≔ (a .p) false a) a)
 
 -- m32: if p ≠ s then chq[s, p] ⇐ osn
 abbrev pub requests : ℕ → Location → State → ℕ → ℕ → List ℕ
@@ -187,7 +208,7 @@ judged s t rq σ =
       chp = send (σ .chp) s t 1;
     })
     (record {
-      node = put (σ .node) s (deferred t true (raised rq (σ .node s)));
+      node = put (σ .node) s (rd≔ t true (raised rq (σ .node s)));
       chq = receive (σ .chq) t s;
       chp = σ .chp;
     })

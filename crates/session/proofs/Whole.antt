@@ -11,18 +11,19 @@ use borrow.Author.Tests.{lt-ltb, le-ltb, ne-eqb}
 use types.Run.{OneOf, miss}
 use denote.Enum.Declared.{tagOf}
 use Rattle.station.specs.declared.Station.{Station}
+use Rattle.station.proofs.Laws.{by-test}
 use Rattle.station.specs.Names.{ACCEPTED, BAD_COUNT}
-use Rattle.station.specs.Rules.{countOk}
+use Rattle.station.specs.Stations.{countOk}
 use Rattle.table.specs.Table.{openCode, opened}
 use Rattle.frames.proofs.Frame.{the-type as frame-type}
 use Rattle.frames.specs.declared.Frame.{Frame}
 use Rattle.frames.specs.declared.Frame.the-variants as frame
 use Rattle.frames.specs.Frames.{frameAt}
-use Rattle.session.specs.declared.Opened.{Opened}
-use Rattle.session.specs.Session.{TOO_LONG, INPUT_LIMIT, openedFor, lineOf, badLine, linesIn, framesFrom, sessionLines, runLines, roomFor, written, Ran, LinesWritten}
-use Rattle.session.proofs.Cases.{either}
+use Rattle.network.specs.declared.Opened.{Opened}
+use Rattle.network.specs.Network.{openedFor}
+use Rattle.session.specs.Session.{TOO_LONG, INPUT_LIMIT, lineOf, badLine, linesIn, framesFrom, sessionLines, runLines, roomFor, written, Ran, LinesWritten}
 use Rattle.session.proofs.Stores.{sets-next, line-length}
-use Rattle.session.proofs.Turns.{linesLeft}
+use Rattle.session.proofs.Steps.{linesLeft}
 
 -- ---- the room
 room-least : (len : ℕ) → 9 ≤ roomFor len
@@ -30,7 +31,7 @@ unfolding roomFor linesIn
 room-least zero = omega arith
 room-least (suc m) =
     rw (ne-eqb (suc m) 0 (λ e. omega arith))
-    (either (λ (room : ℕ). 9 ≤ room) (ltb INPUT_LIMIT (suc m)) 9 _ (omega arith) (omega arith))
+    (by-test (λ (room : ℕ). 9 ≤ room) (ltb INPUT_LIMIT (suc m)) (λ _. omega arith) (λ _. omega arith))
 
 pub room-line : (len room : ℕ) → roomFor len ≤ room → 9 ≤ room
 room-line len room h = omega (arith, room-least len)

@@ -6,15 +6,14 @@ use mathlib.Core.List.{List, [], _∷_, _++_}
 use lib.Dec.{eqb, ltb}
 use lib.ListN.{length, take, drop}
 use Rattle.station.specs.declared.Station.{Station}
-use Rattle.station.specs.declared.Step.{Step}
 use Rattle.station.specs.Names.{ACCEPTED, BAD_COUNT, NO_SUCH_STATION}
-use Rattle.station.specs.Rules.{countOk, namedBy}
-use Rattle.table.specs.Table.{headOf, opened, openAnswer, answer, after, holder}
+use Rattle.station.specs.Stations.{countOk}
+use Rattle.table.specs.Table.{opened, after}
 use Rattle.frames.specs.declared.Frame.{Frame}
 use Rattle.frames.specs.declared.Frame.the-variants as frame
 use Rattle.frames.specs.Frames.{pairOf, frameAt}
-use Rattle.session.specs.declared.Opened.{Opened}
-use Rattle.session.specs.declared.Turned.{Turned}
+use Rattle.network.specs.declared.Stepped.{Stepped}
+use Rattle.network.specs.Network.{steppedBy}
 
 -- 01, code 9: "bad frame (program only)"
 abbrev pub BAD_FRAME : ℕ
@@ -27,16 +26,6 @@ TOO_LONG = 10
 -- 01, code 10: the limit
 abbrev pub INPUT_LIMIT : ℕ
 INPUT_LIMIT = 65536
-
--- ---- a table by value
--- an opened table with its code; a refused opening leaves the records that it was given, here new ones
-unfoldable pub openedFor : ℕ → Opened
-openedFor n = record { code = openAnswer n opened; table = opened }
-
--- the table after a step, with its code, the head of the named station and the station in Holding
-unfoldable pub turnOf : List Station → ℕ → Step → Turned
-turnOf t n x =
-    record { code = answer n t x; head = headOf (after n t x) (namedBy x); holder = holder (after n t x); table = after n t x }
 
 -- ---- a line
 -- "two digits a field": the characters of one byte
@@ -52,8 +41,8 @@ unfoldable pub shownOf : ℕ → ℕ → ℕ
 shownOf code value = cond (eqb code NO_SUCH_STATION) 0 value
 
 -- the line of a step
-unfoldable pub turnLine : Turned → List ℕ
-turnLine r = lineOf (r .code) (shownOf (r .code) (r .head .place)) (shownOf (r .code) (r .head .due)) (r .holder)
+unfoldable pub stepLine : Stepped → List ℕ
+stepLine r = lineOf (r .code) (shownOf (r .code) (r .head .place)) (shownOf (r .code) (r .head .due)) (r .holder)
 
 -- "one line 09000000 is written and the run stops"
 abbrev pub badLine : List ℕ
@@ -70,16 +59,16 @@ framesFrom zero k s = []
 framesFrom (suc left) k s = frameAt s (7 * k) ∷ framesFrom left (k + 1) s
 
 -- after the first frame: a line for each step; "Codes 3 to 8 do not stop it"; "Any departure .. is code 9"
-unfoldable pub turnLines : ℕ → List Station → List Frame → List ℕ
-turnLines n t [] = []
-turnLines n t (frame.Move x ∷ fs) = turnLine (turnOf t n x) ++ turnLines n (after n t x) fs
-turnLines n t (frame.Open m ∷ fs) = badLine
-turnLines n t (frame.Bad ∷ fs) = badLine
+unfoldable pub stepLines : ℕ → List Station → List Frame → List ℕ
+stepLines n t [] = []
+stepLines n t (frame.Move x ∷ fs) = stepLine (steppedBy t n x) ++ stepLines n (after n t x) fs
+stepLines n t (frame.Open m ∷ fs) = badLine
+stepLines n t (frame.Bad ∷ fs) = badLine
 
 -- "or no first frame, is code 9"; "A bad count gives 01000000 and the run stops"
 unfoldable pub sessionLines : List Frame → List ℕ
 sessionLines [] = badLine
-sessionLines (frame.Open n ∷ fs) = cond (countOk n) (lineOf ACCEPTED 0 0 0 ++ turnLines n opened fs) (lineOf BAD_COUNT 0 0 0)
+sessionLines (frame.Open n ∷ fs) = cond (countOk n) (lineOf ACCEPTED 0 0 0 ++ stepLines n opened fs) (lineOf BAD_COUNT 0 0 0)
 sessionLines (frame.Move x ∷ fs) = badLine
 sessionLines (frame.Bad ∷ fs) = badLine
 
@@ -103,5 +92,5 @@ pub record Ran (s old out : List ℕ) (r : ℕ) : Type 0 where
 
 -- the same of the lines behind the first
 pub record LinesWritten (s : List ℕ) (n : ℕ) (t : List Station) (old out : List ℕ) (r : ℕ) : Type 0 where
-  pub count : r ≡ 9 + length (turnLines n t (framesFrom (linesIn (length s) - 1) 1 s))
-  pub bytes : out ≡ take 9 old ++ (turnLines n t (framesFrom (linesIn (length s) - 1) 1 s) ++ drop r old)
+  pub count : r ≡ 9 + length (stepLines n t (framesFrom (linesIn (length s) - 1) 1 s))
+  pub bytes : out ≡ take 9 old ++ (stepLines n t (framesFrom (linesIn (length s) - 1) 1 s) ++ drop r old)

@@ -1,16 +1,14 @@
 // The run: a list of frames in, a line out for each, over a table that is lent to the crate table's own functions.
 use frames::Frame;
 use station::ACCEPTED;
-use station::Head;
 use station::NO_SUCH_STATION;
 use station::STATIONS;
 use station::Station;
-use station::Step;
 ghost use mathlib.Core.Path.{_≡_};
 ghost use Prim.Native.Nat.{_+_, _*_, _≤_};
 ghost use lib.ListN.{length};
 ghost use lib.Seq.{sets};
-ghost use Rattle.session.specs.Session.{openedFor, turnOf, shownOf, pairLine, lineOf, linesIn, roomFor, LinesWritten, Ran};
+ghost use Rattle.session.specs.Session.{shownOf, pairLine, lineOf, linesIn, roomFor, LinesWritten, Ran};
 
 pub const BAD_FRAME: u8 = 9;
 
@@ -23,48 +21,6 @@ pub const INPUT_LIMIT: usize = 65536;
 pub const LINE_BYTES: usize = 9;
 
 pub const OUTPUT_MOST: usize = 84267;
-
-// A table by value, and the code of its opening.
-pub struct Opened {
-    pub code: u8,
-    pub table: [Station; STATIONS],
-}
-
-// A table by value after a step, and what a line says of the step.
-pub struct Turned {
-    pub code: u8,
-    pub head: Head,
-    pub holder: usize,
-    pub table: [Station; STATIONS],
-}
-
-// Opens a table of its own, so that a caller needs none to lend.
-pub fn open_table(n: usize) -> Opened
-    ensures { λ r. ⌜ r ≡ openedFor n ⌝ }
-{
-    let mut table = [station::new_station(); STATIONS];
-    let code = table::open(&mut table, n);
-    Opened {
-        code: code,
-        table: table,
-    }
-}
-
-// One step of a table that comes by value and goes back by value: it is lent to `table::step`, and then read.
-pub fn turn(table: [Station; STATIONS], n: usize, step: Step) -> Turned
-    ensures { λ r. ⌜ r ≡ turnOf table n step ⌝ }
-{
-    let mut lent = table;
-    let code = table::step(&mut lent, n, step);
-    let head = table::head_of(&lent, station::named_by(step));
-    let holder = table::holder_of(&lent);
-    Turned {
-        code: code,
-        head: head,
-        holder: holder,
-        table: lent,
-    }
-}
 
 // What a line shows of the named station: zeros where a step names none.
 fn shown(code: u8, value: u8) -> u8
@@ -118,7 +74,7 @@ pub fn room_for(len: usize) -> usize
 }
 
 // The lines after the first, written behind it. Gives the index past the last.
-fn put_turns(input: &[u8], n: usize, opened: [Station; STATIONS], output: &mut [u8]) -> usize
+fn put_steps(input: &[u8], n: usize, opened: [Station; STATIONS], output: &mut [u8]) -> usize
     requires { ⌜ (1 ≤ length (now input)) × (length (now input) ≤ 65536) × (9 * linesIn (length (now input)) ≤ length (now output)) ⌝ }
     ensures { λ r. ⌜ LinesWritten (now (input .entry)) n opened (now (output .entry)) (now (output .exit)) r ⌝ }
 {
@@ -130,9 +86,9 @@ fn put_turns(input: &[u8], n: usize, opened: [Station; STATIONS], output: &mut [
             put_line(output, LINE_BYTES * k, BAD_FRAME, 0, 0, 0);
             return LINE_BYTES * k + LINE_BYTES;
         };
-        let turned = turn(table, n, step);
-        let head = turned.head;
-        let code = turned.code;
+        let stepped = network::step(table, n, step);
+        let head = stepped.head;
+        let code = stepped.code;
         let place = shown(code, head.place);
         let due = shown(code, head.due);
         put_line(
@@ -141,9 +97,9 @@ fn put_turns(input: &[u8], n: usize, opened: [Station; STATIONS], output: &mut [
             code,
             place,
             due,
-            turned.holder as u8,
+            stepped.holder as u8,
         );
-        table = turned.table;
+        table = stepped.table;
         k += 1;
     }
     LINE_BYTES * k
@@ -164,11 +120,11 @@ pub fn run(input: &[u8], output: &mut [u8]) -> usize
         put_line(output, 0, BAD_FRAME, 0, 0, 0);
         return LINE_BYTES;
     };
-    let opened = open_table(n);
+    let opened = network::open(n);
     put_line(output, 0, opened.code, 0, 0, 0);
     if opened.code != ACCEPTED {
         return LINE_BYTES;
     }
     let table = opened.table;
-    put_turns(input, n, table, output)
+    put_steps(input, n, table, output)
 }

@@ -1,38 +1,47 @@
--- Laws of the count that the steps ask for, and of the scan over the cells of a record.
-use Prim.Native.Nat.{ℕ, _+_, _≤_, _<_}
-use mathlib.Core.Bool.{Bool, true, _&&_, and-eq-true-iff}
-use mathlib.Core.Path.{_≡_, refl, sym, _∙_}
-use mathlib.Core.List.{List, map}
-use native.Mathlib.Numerals.{add-one}
-use lib.Dec.{leb}
-use lib.ListN.{length, drop, getD, drop-of-length-le, length-map}
-use lib.Seq.{drop-cons}
-use borrow.Author.Tests.{leb-true}
-use Rattle.station.specs.declared.Cells.{Cells}
-use Rattle.station.proofs.Cells.{the-field}
-use Rattle.station.specs.Rules.{countOk}
-use Rattle.station.specs.Form.{cellOk, cellsOk}
+-- What holds by the outcome of a test; and the tests of a count and of stations, as bounds.
+use Prim.Native.Nat.{ℕ, _≤_}
+use native.Mathlib.Omega.{arith}
+use mathlib.Core.Bool.{Bool, true, false, cond, and-eq-true-iff}
+use mathlib.Core.Path.{_≡_, refl, ap, sym, _∙_}
+use mathlib.Core.Logic.{_≢_}
+use lib.Dec.{eqb}
+use borrow.Author.Tests.{leb-true, le-leb, eqb-false, not-true}
+use Rattle.station.specs.declared.Step.{Step}
+use Rattle.station.specs.declared.Step.the-variants.{TakeRequest}
+use Rattle.station.specs.Names.{STATIONS}
+use Rattle.station.specs.Stations.{countOk, isStation, stationsOk}
 
--- what the steps ask of the count
-pub count-range : (n : ℕ) → countOk n ≡ true → (2 ≤ n) × (n ≤ 32)
+pub by-test : {A : Type 0} (P : A → Type 0) (b : Bool) {x y : A} → (b ≡ true → P x) → (b ≡ false → P y) → P (cond b x y)
+by-test P true p q = p refl
+by-test P false p q = q refl
+
+-- 2 to 32, as bounds
+abbrev pub Count : ℕ → Type 0
+Count n = (2 ≤ n) × (n ≤ STATIONS)
+
+pub count-range : (n : ℕ) → countOk n ≡ true → Count n
 unfolding countOk
-count-range n e =
-    let both = and-eq-true-iff (leb 2 n) (leb n 32) .0 e in
-    (leb-true 2 n (both .0), leb-true n 32 (both .1))
+count-range n e = let h = and-eq-true-iff _ _ .0 e in (leb-true 2 n (h .0), leb-true n STATIONS (h .1))
 
--- how many cells a record has, from what its array's type says of their tuples
-pub all-cells : (cells : List Cells) → length (map (the-field .into) cells) ≡ 32 → length cells ≡ 32
-all-cells cells e = sym (length-map cells (the-field .into)) ∙ e
+pub count-ok : {n : ℕ} → Count n → countOk n ≡ true
+unfolding countOk
+count-ok {n} C = rw (le-leb 2 n (C .0), le-leb n STATIONS (C .1))
 
--- the cells from index j on: the one at j, with its test's answer, and those after it; none past the last
-pub scan-next :
-    (n s : ℕ) (cells : List Cells) (j : ℕ) (d : Cells) (fits : Bool) →
-    j < length cells →
-    cellOk n s (j + 1) (getD cells j d) ≡ fits →
-    cellsOk n s (j + 1) (drop j cells) ≡ (fits && cellsOk n s (j + 1 + 1) (drop (j + 1) cells))
-unfolding cellsOk
-scan-next n s cells j d fits h e = rw (drop-cons cells j d h, e, add-one j) refl
+pub station-range : (n s : ℕ) → isStation n s ≡ true → (1 ≤ s) × (s ≤ n)
+unfolding isStation
+station-range n s e = let h = and-eq-true-iff _ _ .0 e in (leb-true 1 s (h .0), leb-true s n (h .1))
 
-pub scan-end : (n s t : ℕ) (cells : List Cells) (j : ℕ) → length cells ≤ j → cellsOk n s t (drop j cells) ≡ true
-unfolding cellsOk
-scan-end n s t cells j h = rw (drop-of-length-le cells h)
+-- the two of a take
+pub two-stations : (n s t : ℕ) → stationsOk n (TakeRequest s t) ≡ true → (isStation n s ≡ true) × (isStation n t ≡ true) × (s ≢ t)
+unfolding stationsOk
+two-stations n s t e =
+    let h = and-eq-true-iff _ _ .0 e in
+    let k = and-eq-true-iff _ _ .0 (h .1) in
+    (h .0, k .0, eqb-false s t (not-true (eqb s t) (k .1)))
+
+-- and in the largest network
+pub take-range : (n s t : ℕ) (x : Step) → x ≡ TakeRequest s t → countOk n ≡ true → stationsOk n x ≡ true
+    → ((1 ≤ t) × (t ≤ STATIONS)) × ((1 ≤ s) × (s ≤ STATIONS))
+take-range n s t x e c ok =
+    let two = two-stations n s t (sym (ap (stationsOk n) e) ∙ ok) in
+    omega (arith, count-range n c, station-range n s (two .0), station-range n t (two .1))

@@ -1,4 +1,4 @@
--- What a reader must believe: the names of places and codes, the rows of the steps, the form of a record.
+-- What a reader must believe: the names of places and codes, which stations a step names, one setter for each field of a record.
 pub mod Names
-pub mod Rules
-pub mod Form
+pub mod Stations
+pub mod Setters

@@ -28,7 +28,7 @@ use Rattle.station.specs.declared.Cells.{Cells}
 use Rattle.station.specs.declared.Station.{Station}
 use Rattle.station.specs.declared.Step.{Step as Action}
 use Rattle.station.specs.Names.{STATIONS}
-use Rattle.station.specs.Form.{newCells}
+use Rattle.form.specs.Form.{newCells}
 use Rattle.station.proofs.Head as Hd
 use Rattle.station.proofs.Head.Laws as Hd′
 use Rattle.station.proofs.Cells as Ce
@@ -39,7 +39,7 @@ use Rattle.station.proofs.Step as St
 use Rattle.station.proofs.Step.Laws as St′
 use Rattle.table.specs.Table.{noStation, headIn, cellsIn, putHead, putCells}
 use Rattle.table.proofs.Places.{headBytes, recordAt, headAt, allCellsAt, cellsAt}
-use Rattle.table.proofs.Within.{Within, Gap, array-by, element-within, array-within, field-within, deeper, take-out, put-in, put-back}
+use Rattle.walks.proofs.Within.{Within, Gap, array-by, element-within, array-within, field-within, deeper, take-out, put-in, put-back}
 
 -- the machine values of a head, of cells and of a step
 abbrev pub headVals : Head → List Val

@@ -1,11 +1,9 @@
--- What several proofs of this crate share.
+-- What several proofs of this crate share, and that a step keeps the form.
 pub mod Places
-pub mod Within
 pub mod InTable
-pub mod Calls
-pub mod Locals
-pub mod Return
-pub mod Along
 pub mod Look
 pub mod Unchanged
 pub mod Answers
+pub mod Fits
+pub mod Records
+pub mod Kept

@@ -1,17 +1,18 @@
 -- The rules of the table: a code and a table for any table, any count and any step. The contracts, the run and the demands all speak of these.
 use Prim.Native.Nat.{ℕ, _+_, _-_}
-use mathlib.Core.Bool.{Bool, true, false, cond, _&&_}
+use mathlib.Core.Bool.{Bool, true, cond, _&&_}
 use mathlib.Core.List.{List, [], _∷_}
 use lib.Dec.{eqb}
 use lib.ListN.{length, getD, set, replicate}
 use Rattle.station.specs.declared.Head.{Head}
 use Rattle.station.specs.declared.Cells.{Cells}
 use Rattle.station.specs.declared.Station.{Station}
-use Rattle.station.specs.declared.Outcome.{Outcome}
 use Rattle.station.specs.declared.Step.{Step}
-use Rattle.station.specs.Names.{HOLDING, STATIONS, ACCEPTED, BAD_COUNT, NOT_WELL_FORMED, NO_SUCH_STATION}
-use Rattle.station.specs.Rules.{countOk, isStation, stationsOk, namedBy, peerOf, indexOf, outcome}
-use Rattle.station.specs.Form.{newCells, newStation, recordOk}
+use Rattle.station.specs.Names.{HOLDING, STATIONS, ACCEPTED, BAD_COUNT, NOT_WELL_FORMED}
+use Rattle.station.specs.Stations.{countOk, isStation, namedBy, peerOf, indexOf}
+use Rattle.rows.specs.declared.Outcome.{Outcome}
+use Rattle.rows.specs.Rows.{outcome}
+use Rattle.form.specs.Form.{newCells, newStation, recordOk}
 
 -- ---- what a table holds
 -- what is read past the end of a list: zeros
@@ -86,7 +87,7 @@ seatOf x next = indexOf (peerOf x next)
 abbrev pub peerSeat : List Station → Step → ℕ
 peerSeat t x = seatOf x (headIn t (seat x) .next)
 
--- what the step's row makes of the head and of the two cells between the station and its peer
+-- what the core makes of the head and of the two cells between the station and its peer
 abbrev pub outcomeIn : ℕ → List Station → Step → Outcome
 outcomeIn n t x = outcome n x (headIn t (seat x)) (cellsIn t (seat x) (peerSeat t x)) (cellsIn t (peerSeat t x) (seat x))
 
@@ -94,14 +95,9 @@ outcomeIn n t x = outcome n x (headIn t (seat x)) (cellsIn t (seat x) (peerSeat 
 abbrev pub landed : Outcome → List Station → ℕ → ℕ → List Station
 landed out t i j = putCells (putCells (putHead t i (out .head)) i j (out .mine)) j i (out .theirs)
 
--- 01, "Codes": "at a step 2, 3", before those of the step's row
-unfoldable pub firstRefusal : Bool → ℕ → Step → ℕ
-firstRefusal form n x = cond form (cond (stationsOk n x) ACCEPTED NO_SUCH_STATION) NOT_WELL_FORMED
-
--- 01, "Codes": "The first that applies is returned": 2 and 3, then those of the step's row
+-- 01, "Codes": "at a step 2, 3, 4, then 5, 6 or 7, then 8. The first that applies is returned": 2 unless the table is well formed, else what the core says
 unfoldable pub answer : ℕ → List Station → Step → ℕ
-answer n t x =
-    cond (eqb (firstRefusal (wellFormed n t) n x) ACCEPTED) (outcomeIn n t x .code) (firstRefusal (wellFormed n t) n x)
+answer n t x = cond (wellFormed n t) (outcomeIn n t x .code) NOT_WELL_FORMED
 
 -- 01, "Codes": "Every refusal leaves the whole table .. unchanged. An accepted step changes only what its row names"
 unfoldable pub after : ℕ → List Station → Step → List Station

@@ -3,7 +3,6 @@ use station::ACCEPTED;
 use station::BAD_COUNT;
 use station::HOLDING;
 use station::Head;
-use station::NO_SUCH_STATION;
 use station::NOT_WELL_FORMED;
 use station::STATIONS;
 use station::Station;
@@ -11,8 +10,8 @@ use station::Step;
 ghost use mathlib.Core.Path.{_≡_};
 ghost use Prim.Native.Nat.{_<_};
 ghost use lib.ListN.{length};
-ghost use Rattle.station.specs.Rules.{outcome};
-ghost use Rattle.table.specs.Table.{headIn, cellsIn, headOf, noHead, landed, openCode, openAnswer, openAfter, wellFormed, sized, firstRefusal, seatOf, answer, after, holder};
+ghost use Rattle.rows.specs.Rows.{outcome};
+ghost use Rattle.table.specs.Table.{headIn, cellsIn, headOf, landed, openCode, openAnswer, openAfter, wellFormed, sized, seatOf, answer, after, holder};
 
 // What opening answers, by the length of the table and the count.
 fn opening(len: usize, n: usize) -> u8
@@ -33,7 +32,7 @@ pub fn open(table: &mut [Station], n: usize) -> u8
 {
     let code = opening(table.len(), n);
     if code == ACCEPTED {
-        let new = station::new_station();
+        let new = form::new_station();
         let mut i: usize = 0;
         while i < table.len() {
             table[i] = new;
@@ -61,7 +60,7 @@ pub fn well_formed(table: &[Station], n: usize) -> bool
         let mut i: usize = 0;
         while i < table.len() {
             let station = table[i];
-            if station::record_ok(n, i + 1, station) {
+            if form::record_ok(n, i + 1, station) {
                 i += 1;
             } else {
                 return false;
@@ -70,19 +69,6 @@ pub fn well_formed(table: &[Station], n: usize) -> bool
         return true;
     }
     false
-}
-
-// The refusals that come before those of the step itself.
-fn first_refusal(form: bool, n: usize, step: Step) -> u8
-    ensures { λ r. ⌜ r ≡ firstRefusal form n step ⌝ }
-{
-    if form {
-        if station::stations_ok(n, step) {
-            return ACCEPTED;
-        }
-        return NO_SUCH_STATION;
-    }
-    NOT_WELL_FORMED
 }
 
 // The index of the peer whose cells a step may touch.
@@ -101,7 +87,7 @@ fn act_on(table: &mut [Station], n: usize, step: Step, i: usize, j: usize) -> u8
     let head = table[i].head;
     let mine = table[i].cells[j];
     let theirs = table[j].cells[i];
-    let out = station::act(n, step, head, mine, theirs);
+    let out = rows::act(n, step, head, mine, theirs);
     table[i].head = out.head;
     table[i].cells[j] = out.mine;
     table[j].cells[i] = out.theirs;
@@ -112,15 +98,13 @@ fn act_on(table: &mut [Station], n: usize, step: Step, i: usize, j: usize) -> u8
 pub fn step(table: &mut [Station], n: usize, step: Step) -> u8
     ensures { λ r. ⌜ (r ≡ answer n (now (table .entry)) step) × (now (table .exit) ≡ after n (now (table .entry)) step) ⌝ }
 {
-    let form = well_formed(table, n);
-    let code = first_refusal(form, n, step);
-    if code == ACCEPTED {
+    if well_formed(table, n) {
         let i = station::index_of(station::named_by(step));
         let next = table[i].head.next;
         let j = seat_of(step, next);
         act_on(table, n, step, i, j)
     } else {
-        code
+        NOT_WELL_FORMED
     }
 }
 

@@ -54,8 +54,8 @@ returns-3 c =
     (not-opened _ (at-if2 .if2 .left) (rw (at-frame-at .frame-at .ensures) at (at-match .match .keys2)))
     (c .before .before .put-line2 .ensures)
 
-open-table-requires : tie.Need-open-table-requires
-open-table-requires c κs = search needs
+open-requires : tie.Need-open-requires
+open-requires c κs = search needs
 
 put-line-requires-3 : tie.Need-put-line-requires-3
 put-line-requires-3 c κs =
@@ -69,18 +69,18 @@ same-length-3 c = search needs
 returns-4 : tie.Need-returns-4
 returns-4 c =
     let at-put-line3 = c .before .before .before .before in
-    let at-open-table = at-put-line3 .before .before in
-    let at-n = at-open-table .before .before in
+    let at-open = at-put-line3 .before .before in
+    let at-n = at-open .before .before in
     let at-frame-at = at-n .before .before in
     let at-if2 = at-frame-at .before in
     let at-if1 = at-if2 .before in
     let at-room-for = at-if1 .before in
     one-line _ _ (rw (at-room-for .room-for .ensures) at (at-if1 .if1 .left)) _ _
-    (refused _ _ _ (at-if2 .if2 .left) (sym (at-frame-at .frame-at .ensures) ∙ at-n .n .given .1) (at-open-table .open-table .ensures) (c .if3 .taken))
+    (refused _ _ _ (at-if2 .if2 .left) (sym (at-frame-at .frame-at .ensures) ∙ at-n .n .given .1) (at-open .open .ensures) (c .if3 .taken))
     (at-put-line3 .put-line3 .ensures)
 
-put-turns-requires : tie.Need-put-turns-requires
-put-turns-requires c κs =
+put-steps-requires : tie.Need-put-steps-requires
+put-steps-requires c κs =
     let at-put-line3 = c .before .before .before .before .before .before in
     let at-n = at-put-line3 .before .before .before .before in
     let at-frame-at = at-n .before .before in
@@ -98,17 +98,17 @@ returns-5 : tie.Need-returns-5
 returns-5 c =
     let at-if3 = c .before .before .before .before .before in
     let at-put-line3 = at-if3 .before .before .before .before in
-    let at-open-table = at-put-line3 .before .before in
-    let at-n = at-open-table .before .before in
+    let at-open = at-put-line3 .before .before in
+    let at-n = at-open .before .before in
     let at-frame-at = at-n .before .before in
     let at-if2 = at-frame-at .before in
     let at-if1 = at-if2 .before in
     let at-room-for = at-if1 .before in
     more-lines _ _ (rw (at-room-for .room-for .ensures) at (at-if1 .if1 .left)) _ _ _ _ _ _
-    (accepted _ _ _ (at-if2 .if2 .left) (sym (at-frame-at .frame-at .ensures) ∙ at-n .n .given .1) (at-open-table .open-table .ensures) (at-if3 .if3 .left))
+    (accepted _ _ _ (at-if2 .if2 .left) (sym (at-frame-at .frame-at .ensures) ∙ at-n .n .given .1) (at-open .open .ensures) (at-if3 .if3 .left))
     (at-put-line3 .put-line3 .ensures)
-    (omega (arith, c .before .before .put-turns .kept))
-    (c .before .before .put-turns .ensures)
+    (omega (arith, c .before .before .put-steps .kept))
+    (c .before .before .put-steps .ensures)
 
 pub run-spec : {M : Type 1} → statement M
 run-spec =
@@ -124,10 +124,10 @@ run-spec =
     put-line-requires-2
     same-length-2
     returns-3
-    open-table-requires
+    open-requires
     put-line-requires-3
     same-length-3
     returns-4
-    put-turns-requires
+    put-steps-requires
     same-length-4
     returns-5)

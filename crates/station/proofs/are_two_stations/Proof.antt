@@ -1,6 +1,6 @@
 -- Proof of `are_two_stations`, by the tests on the way to each `return`.
 use mathlib.Core.Path.{sym, _∙_}
-use Rattle.station.specs.Rules.{stationsOk}
+use Rattle.station.specs.Stations.{stationsOk}
 use borrow.Author.Needs.{needs}
 use Rattle.station.proofs.are_two_stations.Statement.{statement}
 use Rattle.station.proofs.are_two_stations.Tie as tie

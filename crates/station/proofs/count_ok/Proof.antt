@@ -1,7 +1,7 @@
 -- Proof of `count_ok`: the two bounds of the count.
 use native.Mathlib.Omega.{arith}
 use borrow.Author.Tests.{le-leb, lt-leb}
-use Rattle.station.specs.Rules.{countOk}
+use Rattle.station.specs.Stations.{countOk}
 use Rattle.station.proofs.count_ok.Statement.{statement}
 use Rattle.station.proofs.count_ok.Tie as tie
 

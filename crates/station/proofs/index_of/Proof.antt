@@ -1,6 +1,6 @@
 -- Proof of `index_of`: below the first station, above the last one, and between.
 use native.Mathlib.Omega.{arith}
-use Rattle.station.specs.Rules.{indexOf}
+use Rattle.station.specs.Stations.{indexOf}
 use borrow.Author.Needs.{needs}
 use Rattle.station.proofs.index_of.Statement.{statement}
 use Rattle.station.proofs.index_of.Tie as tie

@@ -2,7 +2,7 @@
 use native.Mathlib.Omega.{arith}
 use lib.Dec.{leb·suc-suc}
 use borrow.Author.Tests.{le-leb, lt-leb}
-use Rattle.station.specs.Rules.{isAsking}
+use Rattle.station.specs.Stations.{isAsking}
 use Rattle.station.proofs.is_asking.Statement.{statement}
 use Rattle.station.proofs.is_asking.Tie as tie
 

@@ -1,7 +1,7 @@
 -- Proof of `is_station`: 0 is no station, and no other is below 1.
 use native.Mathlib.Omega.{arith}
 use borrow.Author.Tests.{le-leb, lt-leb}
-use Rattle.station.specs.Rules.{isStation}
+use Rattle.station.specs.Stations.{isStation}
 use Rattle.station.proofs.is_station.Statement.{statement}
 use Rattle.station.proofs.is_station.Tie as tie
 

@@ -1,5 +1,5 @@
 -- Proof of `stations_ok`, step by step.
-use Rattle.station.specs.Rules.{stationsOk}
+use Rattle.station.specs.Stations.{stationsOk}
 use borrow.Author.Needs.{needs}
 use Rattle.station.proofs.stations_ok.Statement.{statement}
 use Rattle.station.proofs.stations_ok.Tie as tie

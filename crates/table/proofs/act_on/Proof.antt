@@ -38,28 +38,28 @@ use denote.Triple.Table.{entered, cited}
 use denote.Triple.Walked.{says, needs, Stays, stay-slice, stay-none, walkOf, goes-slice, goes-none, Walks, ends-at, walked, walk-meets}
 use denote.Exit.{yes}
 use Rattle.station.specs.declared.Station.{Station}
-use Rattle.station.specs.declared.Outcome.{Outcome}
+use Rattle.rows.specs.declared.Outcome.{Outcome}
 use Rattle.station.specs.declared.Step.{Step}
-use Rattle.station.specs.Rules.{outcome}
+use Rattle.rows.specs.Rows.{outcome}
 use Rattle.station.proofs.Head as Hd
 use Rattle.station.proofs.Head.Laws as Hd′
 use Rattle.station.proofs.Cells as Ce
 use Rattle.station.proofs.Cells.Laws as Ce′
 use Rattle.station.proofs.Station as Sn
-use Rattle.station.proofs.Outcome as Ou
-use Rattle.station.proofs.Outcome.Laws as Ou′
+use Rattle.rows.proofs.Outcome as Ou
+use Rattle.rows.proofs.Outcome.Laws as Ou′
 use Rattle.station.proofs.Step as St
 use Rattle.station.proofs.Step.Laws as St′
-use Rattle.station.proofs.act as act
-use Rattle.station.proofs.act.Symbol as act-def
-use Rattle.station.proofs.act.Symbol.{name as #station·act}
-use Rattle.station.proofs.act.Met as act-thm
+use Rattle.rows.proofs.act as act
+use Rattle.rows.proofs.act.Symbol as act-def
+use Rattle.rows.proofs.act.Symbol.{name as #rows·act}
+use Rattle.rows.proofs.act.Met as act-thm
 use Rattle.table.specs.Table.{noStation, headIn, cellsIn, putHead, putCells, landed}
 use Rattle.table.proofs.Places.{recordBytes, cellBytes, record-fits, cell-fits}
 use Rattle.table.proofs.InTable.{headVals, cellsVals, stepVals, head-typed, cells-typed, head-out, head-back, head-put, cells-out, cells-back, cells-put}
-use Rattle.table.proofs.Locals.{local, field-of, times, offset-to, sets, changes}
-use Rattle.table.proofs.Calls.{calls-plain}
-use Rattle.table.proofs.Return.{leaves}
+use Rattle.walks.proofs.Locals.{local, field-of, times, offset-to, sets, changes}
+use Rattle.walks.proofs.Calls.{calls-plain}
+use Rattle.walks.proofs.Return.{leaves}
 use Rattle.table.proofs.act_on.Key.{name as #table·act-on}
 use Rattle.table.proofs.act_on as f
 use Rattle.table.proofs.act_on.Statement as stated
@@ -127,7 +127,7 @@ module _ {M : Type 1} (𝓤 : URA M) (H : Heap 𝓤) (A : Atoms 𝓤) (W : Given
       frame ! $ fjoin ! $ pureI ! (at-slice Sn.the-row (ref (landed r t i j)) (vals .0)) (tt, (tt, tt)) (ap (λ (c : ℕ). sliceVal (b, o) c ∷ []) (sym (length₃ r)), subst (Room Sn.the-row) (sym (length₃ r)) room) $ fjoin ! $ fjoin ! $ frame ! $
       owned ! u8 (Is u8) (uint-makes 𝓤 H A W w8) (r .code) _ (refl, gc) $ done !
 
-  module _ (C : Calls 𝓤 H) (Λ : Loops 𝓤 H) (fm : FmC 𝓤 H (W .laws) C) (known : Triple 𝓤 (C #station·act) (Act 𝓤 H A at-mem run)) where
+  module _ (C : Calls 𝓤 H) (Λ : Loops 𝓤 H) (fm : FmC 𝓤 H (W .laws) C) (known : Triple 𝓤 (C #rows·act) (Act 𝓤 H A at-mem run)) where
     walk : ent 𝓤 (onEntry 𝓤 H A f.signature (κ, tt) (q, tt) args vals) (WpFn 𝓤 H C Λ code.function flat Post)
     walk =
         let mi = record-fits i i32 in
@@ -205,14 +205,14 @@ module _ {M : Type 1} (𝓤 : URA M) (H : Heap 𝓤) (A : Atoms 𝓤) (W : Given
         by ! (exits r (fields .0 .1) e)))))))))))))))))))))))))))))))))))
 
 module _ {M : Type 1} (𝓤 : URA M) (H : Heap 𝓤) (A : Atoms 𝓤) (W : Given 𝓤 H A) (mem : Memory → SProp 𝓤) (run : Routine → Fun 𝓤) where
-  act-on-walks : (C : Calls 𝓤 H) (Λ : Loops 𝓤 H) → FmC 𝓤 H (W .laws) C → Triple 𝓤 (C #station·act) (Act 𝓤 H A mem run) → Walks 𝓤 H A f.ended stays (WpFn 𝓤 H C Λ code.function) (f.clauses 𝓤 H A mem run)
+  act-on-walks : (C : Calls 𝓤 H) (Λ : Loops 𝓤 H) → FmC 𝓤 H (W .laws) C → Triple 𝓤 (C #rows·act) (Act 𝓤 H A mem run) → Walks 𝓤 H A f.ended stays (WpFn 𝓤 H C Λ code.function) (f.clauses 𝓤 H A mem run)
   act-on-walks C Λ fm known = walked 𝓤 H A f.ended stays (f.clauses 𝓤 H A mem run) (WpFn 𝓤 H C Λ code.function) (λ κs. (slice-vals, (uint-vals w64, (stepVals, (uint-vals w64, (uint-vals w64, tt))))))
       (λ κs. (mut-slice-tells (named 0) (κs .0) Sn.the-row, (uint-tells w64, (LE.tells St.the-type St′.the-laws, (uint-tells w64, (uint-tells w64, tt))))))
       (λ κs qs bounds a g are. needs 𝓤 _ _ (λ (l : ((a .1 .1 .1 .0 < length (a .0 .now)) × (a .1 .1 .1 .1 .0 < length (a .0 .now))) × ((a .1 .1 .1 .0 < 32) × (a .1 .1 .1 .1 .0 < 32))).
       walk 𝓤 H A W mem run (κs .0) (qs .0) (a .0 .ptr .0) (a .0 .ptr .1) (a .0 .name) (a .0 .now) (a .1 .0) (a .1 .1 .0) (a .1 .1 .1 .0) (a .1 .1 .1 .1 .0)
       (are .0 .0 .1) (are .1 .0 .1) (are .1 .1 .0) (are .1 .1 .1 .0 .1) (are .1 .1 .1 .1 .0 .1) (l .0 .0) (l .0 .1) (l .1 .0) (l .1 .1) C Λ fm known))
 
-  act-on-meets : (𝓣 : Tables 𝓤 H) → Triple 𝓤 (𝓣 .C #station·act) (Act 𝓤 H A mem run) → Meets 𝓤 H A f.signature (WpFn 𝓤 H (𝓣 .C) (𝓣 .Λ) code.function) (f.spec 𝓤 H A mem run)
+  act-on-meets : (𝓣 : Tables 𝓤 H) → Triple 𝓤 (𝓣 .C #rows·act) (Act 𝓤 H A mem run) → Meets 𝓤 H A f.signature (WpFn 𝓤 H (𝓣 .C) (𝓣 .Λ) code.function) (f.spec 𝓤 H A mem run)
   act-on-meets 𝓣 known =
       walk-meets 𝓤 H A f.ended stays W (
         goes-slice 𝓤 H A W 1 0 tt (plain (λ _. Sn.the-row)),
@@ -232,4 +232,4 @@ act-on-spec 𝓤 H 𝓜 𝓖 𝓡 =
     entered 𝓤 H (tripleOf 𝓤 H (𝓖 .A) f.signature (f.spec 𝓤 H (𝓖 .A) (𝓜 .mem) (𝓡 .run)))
     (tables 𝓤 H 𝓜 𝓡 code.env .C) (tables 𝓤 H 𝓜 𝓡 code.env .Λ) #table·act-on code.function (code.unfolded 𝓤 H 𝓜 𝓡)
     (act-on-meets 𝓤 H (𝓖 .A) (givenOf 𝓤 H 𝓜 𝓖) (𝓜 .mem) (𝓡 .run) (tablesOf 𝓤 H 𝓜 (tables 𝓤 H 𝓜 𝓡 code.env))
-    (cited 𝓤 H (Act 𝓤 H (𝓖 .A) (𝓜 .mem) (𝓡 .run)) 𝓜 𝓡 code.env #station·act act-def.routine code.calls-station·act (act-thm.met 𝓤 H 𝓜 𝓖 𝓡)))
+    (cited 𝓤 H (Act 𝓤 H (𝓖 .A) (𝓜 .mem) (𝓡 .run)) 𝓜 𝓡 code.env #rows·act act-def.routine code.calls-rows·act (act-thm.met 𝓤 H 𝓜 𝓖 𝓡)))

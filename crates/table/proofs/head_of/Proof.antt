@@ -41,7 +41,7 @@ use denote.Exit.{yes}
 use borrow.Author.Tests.{leb-true}
 use Rattle.station.specs.declared.Head.{Head}
 use Rattle.station.specs.declared.Station.{Station}
-use Rattle.station.specs.Rules.{isStation}
+use Rattle.station.specs.Stations.{isStation}
 use Rattle.station.proofs.Head as Hd
 use Rattle.station.proofs.Head.Laws as Hd′
 use Rattle.station.proofs.Station as Sn
@@ -52,10 +52,10 @@ use Rattle.station.proofs.is_station.Met as is-station-thm
 use Rattle.table.specs.Table.{noHead, headIn, headOf}
 use Rattle.table.proofs.Places.{recordBytes}
 use Rattle.table.proofs.InTable.{headVals, head-typed, head-out, head-back}
-use Rattle.table.proofs.Calls.{Promise, calls-plain}
-use Rattle.table.proofs.Locals.{local, field-of, sets, times, offset-to}
-use Rattle.table.proofs.Return.{leaves}
-use Rattle.table.proofs.Along.{passes}
+use Rattle.walks.proofs.Calls.{Promise, calls-plain}
+use Rattle.walks.proofs.Locals.{local, field-of, sets, times, offset-to}
+use Rattle.walks.proofs.Return.{leaves}
+use Rattle.walks.proofs.Along.{passes}
 use Rattle.table.proofs.Look.{offset-fits, shown, Shown, Value, receives, looks, gives-back}
 use Rattle.table.proofs.head_of.Key.{name as #table·head-of}
 use Rattle.table.proofs.head_of as f

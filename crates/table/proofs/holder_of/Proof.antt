@@ -1,4 +1,4 @@
--- `holder_of` meets its contract: a walk of its MIR. Each turn of the loop reads one place where it lies; the first in Holding ends the function.
+-- `holder_of` meets its contract: a walk of its MIR. Each pass of the loop reads one place where it lies; the first in Holding ends the function.
 use mathlib.Core.Path.{_≡_, refl, sym, ap, _∙_}
 use Prim.Native.Nat.{ℕ, _<_, _≤_, _+_, _*_, _^_}
 use native.Mathlib.Omega.{arith}
@@ -45,9 +45,10 @@ use Rattle.station.proofs.Station as Sn
 use Rattle.table.specs.Table.{noStation, headIn, holderFrom, holder}
 use Rattle.table.proofs.Places.{recordBytes}
 use Rattle.table.proofs.InTable.{head-out, head-back}
-use Rattle.table.proofs.Locals.{local, field-of, sets, changes, times, offset-to}
-use Rattle.table.proofs.Return.{bare, full, leaves}
-use Rattle.table.proofs.Along.{Upto, Nearer, ends, onward, nearer, FromHere, one-on, at-end, tests, passes}
+use Rattle.walks.proofs.Locals.{local, field-of, sets, changes, times, offset-to}
+use Rattle.walks.proofs.Return.{bare, full, leaves}
+use Rattle.form.proofs.Scans.{FromHere, one-on, at-end}
+use Rattle.walks.proofs.Along.{Upto, Nearer, ends, onward, nearer, tests, passes}
 use Rattle.table.proofs.Look.{offset-fits, next-fits, shownTy, shown, Shown, Value, receives, looks, gives-back}
 use Rattle.table.proofs.holder_of.Key.{name as #table·holder-of}
 use Rattle.table.proofs.holder_of as f
@@ -104,10 +105,10 @@ module _ {M : Type 1} (𝓤 : URA M) (H : Heap 𝓤) (A : Atoms 𝓤) (W : Given
       abbrev Inv : Far → List (Item 𝓤)
       Inv x = ‵ (Shown κ b o t) ∷ ‵ (flft κ q) ∷ ‵ (Value γ t) ∷ bare (tyInt w8) l₆ (bare tyPtr l₅ (bare tyBool l₄ (bare (tyInt w64) l₃ (full (tyInt w64) l₂ (vint w64 (x .i)) (full shownTy l₁ table (bare (tyInt w64) l₀ []))))))
 
-      turn : (x : Far) → Sq W (Inv x) (runs (𝓣 .C) (𝓣 .Λ) E body.turn-1
+      pass : (x : Far) → Sq W (Inv x) (runs (𝓣 .C) (𝓣 .Λ) E body.turn-1
           (anyQ (afterTurn 𝓤 H (Below 𝓤 H A (Nearer (length t) (Known t)) Inv x) (afterBlock 𝓤 H (afterSeq 𝓤 H (Wp 𝓤 H (𝓣 .C) (𝓣 .Λ) E body.t-3 (atReturn 𝓤 H E Post)) (atReturn 𝓤 H E Post))))))
       unfolding afterTurn
-      turn x =
+      pass x =
           sets ! (of-opd ! (field-of ! 13 refl refl refl)) 9 refl (tt, record { fits = room .0 }) $
           sets ! (bin ! (local ! 11 refl) (local ! 9 refl) tt) 7 refl (tt, tt) $
           tests ! (local ! 7 refl)
@@ -145,7 +146,7 @@ module _ {M : Type 1} (𝓤 : URA M) (H : Heap 𝓤) (A : Atoms 𝓤) (W : Given
         sets ! (of-opd ! (lit ! tt)) 8 refl (tt, record { fits = lit< tt }) $
         -- what the parameter owns is taken apart: [the records; the token; the ghost value; the locals, the last one first]
         move ! (15 ∷ 14 ∷ []) $ receives ! b o t $
-        first ! $ blocks ! $ loops ! 𝓣 (Nearer (length t) (Known t)) (ends (length t) (Known t)) (Inv l₀ l₁ l₂ l₃ l₄ l₅ l₆) (turn l₀ l₁ l₂ l₃ l₄ l₅ l₆) (record { i = 0; within = omega arith; known = refl }))))))))
+        first ! $ blocks ! $ loops ! 𝓣 (Nearer (length t) (Known t)) (ends (length t) (Known t)) (Inv l₀ l₁ l₂ l₃ l₄ l₅ l₆) (pass l₀ l₁ l₂ l₃ l₄ l₅ l₆) (record { i = 0; within = omega arith; known = refl }))))))))
 
 module _ {M : Type 1} (𝓤 : URA M) (H : Heap 𝓤) (A : Atoms 𝓤) (W : Given 𝓤 H A) (mem : Memory → SProp 𝓤) (run : Routine → Fun 𝓤) (𝓣 : Tables 𝓤 H) where
   holder-of-walks : Walks 𝓤 H A f.ended stayed (WpFn 𝓤 H (𝓣 .C) (𝓣 .Λ) code.function) (f.clauses 𝓤 H A mem run)

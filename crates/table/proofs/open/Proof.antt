@@ -46,20 +46,20 @@ use denote.Exit.{yes}
 use borrow.Author.Tests.{eqb-true}
 use Rattle.station.specs.declared.Station.{Station}
 use Rattle.station.specs.Names.{STATIONS, ACCEPTED, BAD_COUNT, NOT_WELL_FORMED}
-use Rattle.station.specs.Rules.{countOk}
-use Rattle.station.specs.Form.{newStation}
+use Rattle.station.specs.Stations.{countOk}
+use Rattle.form.specs.Form.{newStation}
 use Rattle.station.proofs.Station as Sn
 use Rattle.station.proofs.Station.Laws as Sn′
-use Rattle.station.proofs.new_station as new-station
-use Rattle.station.proofs.new_station.Symbol as new-station-def
-use Rattle.station.proofs.new_station.Symbol.{name as #station·new-station}
-use Rattle.station.proofs.new_station.Met as new-station-thm
+use Rattle.form.proofs.new_station as new-station
+use Rattle.form.proofs.new_station.Symbol as new-station-def
+use Rattle.form.proofs.new_station.Symbol.{name as #form·new-station}
+use Rattle.form.proofs.new_station.Met as new-station-thm
 use Rattle.table.specs.Table.{noStation, opened, openCode, openAnswer, openAfter}
 use Rattle.table.proofs.Places.{recordBytes}
-use Rattle.table.proofs.Calls.{Promise, calls-plain}
-use Rattle.table.proofs.Locals.{local, field-of, sets, changes, times, offset-to}
-use Rattle.table.proofs.Return.{bare, full, leaves}
-use Rattle.table.proofs.Along.{Upto, Nearer, ends, onward, nearer, tests, passes}
+use Rattle.walks.proofs.Calls.{Promise, calls-plain}
+use Rattle.walks.proofs.Locals.{local, field-of, sets, changes, times, offset-to}
+use Rattle.walks.proofs.Return.{bare, full, leaves}
+use Rattle.walks.proofs.Along.{Upto, Nearer, ends, onward, nearer, tests, passes}
 use Rattle.table.proofs.Look.{recordVal, recordVals, record-typed, offset-fits, next-fits}
 use Rattle.table.proofs.opening as opening
 use Rattle.table.proofs.opening.Symbol as opening-def
@@ -147,7 +147,7 @@ module _ {M : Type 1} (𝓤 : URA M) (H : Heap 𝓤) (A : Atoms 𝓤) (W : Given
       owned ! u8 (Is u8) (uint-makes 𝓤 H A W w8) code _ (refl, code<) $ done !
 
   module _ (𝓣 : Tables 𝓤 H) (opens : Triple 𝓤 (𝓣 .C #table·opening) (Promise 𝓤 H A opening.ended (opening.clauses 𝓤 H A mem run)))
-      (makes : Triple 𝓤 (𝓣 .C #station·new-station) (Promise 𝓤 H A new-station.ended (new-station.clauses 𝓤 H A mem run))) where
+      (makes : Triple 𝓤 (𝓣 .C #form·new-station) (Promise 𝓤 H A new-station.ended (new-station.clauses 𝓤 H A mem run))) where
     module _ (l₀ l₁ l₂ l₃ l₄ l₅ l₆ l₇ l₈ l₉ l₁₀ : ℕ) (code : ℕ) (code< : code < 2 ^ 8) where
       abbrev E : Env 𝓤 H
       E = (tyInt w8, l₀) ∷ (slice, l₁) ∷ (tyInt w64, l₂) ∷ (tyInt w8, l₃) ∷ (Sn′.mir, l₄) ∷ (tyInt w64, l₅) ∷ (tyInt w64, l₆) ∷ (tyBool, l₇) ∷ (tyInt w64, l₈) ∷ (tyBool, l₉) ∷ (tyPtr, l₁₀) ∷ []
@@ -173,10 +173,10 @@ module _ {M : Type 1} (𝓤 : URA M) (H : Heap 𝓤) (A : Atoms 𝓤) (W : Given
         Left = afterBlock 𝓤 H (afterSeq 𝓤 H (Wp 𝓤 H (𝓣 .C) (𝓣 .Λ) E body.t-5 (atReturn 𝓤 H E Post)) (atReturn 𝓤 H E Post))
 
         -- local k stands at 4 + 2 · (10 − k)
-        turn : Is Sn.the-row s (recordVals s) → ((now : List Station) → now ≡ replicate (length t) s → Owed n t code now) → (x : Far)
+        pass : Is Sn.the-row s (recordVals s) → ((now : List Station) → now ≡ replicate (length t) s → Owed n t code now) → (x : Far)
             → Sq W (Inv x) (runs (𝓣 .C) (𝓣 .Λ) E body.turn-1 (anyQ (afterTurn 𝓤 H (Below 𝓤 H A (Nearer (length t) (Begun t s)) Inv x) Left)))
         unfolding afterTurn
-        turn is told x =
+        pass is told x =
             sets ! (of-opd ! (field-of ! 22 refl refl refl)) 8 refl (tt, record { fits = room .0 }) $
             sets ! (bin ! (local ! 14 refl) (local ! 8 refl) tt) 6 refl (tt, tt) $
             tests ! (local ! 6 refl)
@@ -226,14 +226,14 @@ module _ {M : Type 1} (𝓤 : URA M) (H : Heap 𝓤) (A : Atoms 𝓤) (W : Given
         land ! (from ! (stop !)) (init ! 15 refl (record-typed 𝓤 H A W s is′)) $
         sets ! (of-opd ! (lit ! tt)) 13 refl (tt, record { fits = lit< tt }) $
         opens-slice ! tt Sn.the-row t b o $ blocks ! $
-        loops ! 𝓣 (Nearer (length t) (Begun t s)) (ends (length t) (Begun t s)) (Inv l₀ l₁ l₂ l₃ l₄ l₅ l₆ l₇ l₈ l₉ l₁₀ r (is .1) s) (turn l₀ l₁ l₂ l₃ l₄ l₅ l₆ l₇ l₈ l₉ l₁₀ r (is .1) s is′
+        loops ! 𝓣 (Nearer (length t) (Begun t s)) (ends (length t) (Begun t s)) (Inv l₀ l₁ l₂ l₃ l₄ l₅ l₆ l₇ l₈ l₉ l₁₀ r (is .1) s) (pass l₀ l₁ l₂ l₃ l₄ l₅ l₆ l₇ l₈ l₉ l₁₀ r (is .1) s is′
         (λ now all. owed n t r now true e d (all ∙ ap (λ (m : ℕ). replicate m s) wide ∙ ap (λ (x : Station). replicate STATIONS x) new)))
         (record { i = 0; within = omega arith; known = record { now = t; long = refl; first = refl } })))
         (λ h.
         forget ! 9 refl $ forget ! 11 refl $ forget ! 19 refl $ forget ! 21 refl $ ending l₀ l₁ l₂ l₃ l₄ l₅ l₆ l₇ l₈ l₉ l₁₀ r (is .1) t refl (owed n t r t false e (is-false (eqb r ACCEPTED) h) refl))))))))))))))
 
 module _ {M : Type 1} (𝓤 : URA M) (H : Heap 𝓤) (A : Atoms 𝓤) (W : Given 𝓤 H A) (mem : Memory → SProp 𝓤) (run : Routine → Fun 𝓤) (𝓣 : Tables 𝓤 H)
-    (opens : Triple 𝓤 (𝓣 .C #table·opening) (Promise 𝓤 H A opening.ended (opening.clauses 𝓤 H A mem run))) (makes : Triple 𝓤 (𝓣 .C #station·new-station) (Promise 𝓤 H A new-station.ended (new-station.clauses 𝓤 H A mem run))) where
+    (opens : Triple 𝓤 (𝓣 .C #table·opening) (Promise 𝓤 H A opening.ended (opening.clauses 𝓤 H A mem run))) (makes : Triple 𝓤 (𝓣 .C #form·new-station) (Promise 𝓤 H A new-station.ended (new-station.clauses 𝓤 H A mem run))) where
   open-walks : Walks 𝓤 H A f.ended stayed (WpFn 𝓤 H (𝓣 .C) (𝓣 .Λ) code.function) (f.clauses 𝓤 H A mem run)
   open-walks = walked 𝓤 H A f.ended stayed (f.clauses 𝓤 H A mem run) (WpFn 𝓤 H (𝓣 .C) (𝓣 .Λ) code.function) (λ κs. (slice-vals, (uint-vals w64, tt))) (λ κs. (mut-slice-tells (named 0) (κs .0) Sn.the-row, (uint-tells w64, tt)))
       (λ κs qs bounds a g are. via 𝓤 _ (fst∗ 𝓤 _ (emp 𝓤)) (walk 𝓤 H A W mem run (κs .0) (qs .0) (a .0 .ptr .0) (a .0 .ptr .1) (a .0 .name) (a .0 .now) (a .1 .0) (are .0 .0 .1) (are .1 .0 .1) 𝓣 opens makes))
@@ -249,4 +249,4 @@ open-spec 𝓤 H 𝓜 𝓖 𝓡 =
     (tables 𝓤 H 𝓜 𝓡 code.env .C) (tables 𝓤 H 𝓜 𝓡 code.env .Λ) #table·open code.function (code.unfolded 𝓤 H 𝓜 𝓡)
     (open-meets 𝓤 H (𝓖 .A) (givenOf 𝓤 H 𝓜 𝓖) (𝓜 .mem) (𝓡 .run) (tablesOf 𝓤 H 𝓜 (tables 𝓤 H 𝓜 𝓡 code.env))
     (cited 𝓤 H (Promise 𝓤 H (𝓖 .A) opening.ended (opening.clauses 𝓤 H (𝓖 .A) (𝓜 .mem) (𝓡 .run))) 𝓜 𝓡 code.env #table·opening opening-def.routine code.calls-table·opening (opening-thm.met 𝓤 H 𝓜 𝓖 𝓡))
-    (cited 𝓤 H (Promise 𝓤 H (𝓖 .A) new-station.ended (new-station.clauses 𝓤 H (𝓖 .A) (𝓜 .mem) (𝓡 .run))) 𝓜 𝓡 code.env #station·new-station new-station-def.routine code.calls-station·new-station (new-station-thm.met 𝓤 H 𝓜 𝓖 𝓡)))
+    (cited 𝓤 H (Promise 𝓤 H (𝓖 .A) new-station.ended (new-station.clauses 𝓤 H (𝓖 .A) (𝓜 .mem) (𝓡 .run))) 𝓜 𝓡 code.env #form·new-station new-station-def.routine code.calls-form·new-station (new-station-thm.met 𝓤 H 𝓜 𝓖 𝓡)))

@@ -1,7 +1,7 @@
 -- Proof of `seat_of`: the index of the peer, below 32 as every index is.
 use mathlib.Core.Path.{ap, _∙_}
 use borrow.Author.Needs.{needs}
-use Rattle.station.specs.Rules.{indexOf}
+use Rattle.station.specs.Stations.{indexOf}
 use Rattle.table.proofs.seat_of.Statement.{statement}
 use Rattle.table.proofs.seat_of.Tie as tie
 

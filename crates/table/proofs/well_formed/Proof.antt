@@ -1,4 +1,4 @@
--- `well_formed` meets its contract: a walk of its MIR. In each turn of the loop the record at the index is copied out of the table and judged; the first one that has not its form ends the function.
+-- `well_formed` meets its contract: a walk of its MIR. In each pass of the loop the record at the index is copied out of the table and judged; the first one that has not its form ends the function.
 use mathlib.Core.Path.{_≡_, refl, sym, ap, _∙_}
 use Prim.Native.Nat.{ℕ, _<_, _≤_, _+_, _*_, _^_}
 use native.Mathlib.Omega.{arith}
@@ -38,19 +38,21 @@ use denote.Triple.Table.{entered, cited}
 use denote.Triple.Walked.{says, Stays, stay-none-slice, stay-none, walkOf, goes-none-slice, goes-none, Walks, ends-at, walked, walk-meets}
 use denote.Exit.{yes}
 use Rattle.station.specs.declared.Station.{Station}
-use Rattle.station.specs.Form.{recordOk}
+use Rattle.form.specs.Form.{recordOk}
 use Rattle.station.proofs.Station as Sn
 use Rattle.station.proofs.Station.Laws as Sn′
-use Rattle.station.proofs.record_ok as record-ok
-use Rattle.station.proofs.record_ok.Symbol as record-ok-def
-use Rattle.station.proofs.record_ok.Symbol.{name as #station·record-ok}
-use Rattle.station.proofs.record_ok.Met as record-ok-thm
+use Rattle.form.proofs.record_ok as record-ok
+use Rattle.form.proofs.record_ok.Symbol as record-ok-def
+use Rattle.form.proofs.record_ok.Symbol.{name as #form·record-ok}
+use Rattle.form.proofs.record_ok.Met as record-ok-thm
 use Rattle.table.specs.Table.{noStation, recordsOk, sized, wellFormed}
 use Rattle.table.proofs.Places.{recordBytes}
-use Rattle.table.proofs.Calls.{Promise, calls-plain}
-use Rattle.table.proofs.Locals.{local, field-of, sets, changes, times, offset-to}
-use Rattle.table.proofs.Return.{bare, full, leaves}
-use Rattle.table.proofs.Along.{Upto, Nearer, ends, onward, nearer, FromHere, one-on, at-end, tests, passes}
+use Rattle.walks.proofs.Calls.{Promise, calls-plain}
+use Rattle.walks.proofs.Locals.{local, field-of, sets, changes, times, offset-to}
+use Rattle.walks.proofs.Return.{bare, full, leaves}
+use Rattle.form.proofs.Scans.{FromHere, scan-on, scan-end}
+use Rattle.walks.proofs.Along.{Upto, Nearer, ends, onward, nearer, tests, passes}
+use Rattle.table.proofs.Records.{records-scan}
 use Rattle.table.proofs.Look.{recordVals, record-typed, offset-fits, next-fits, shownTy, shown, Shown, Value, receives, looks, gives-back}
 use Rattle.table.proofs.is_sized as is-sized
 use Rattle.table.proofs.is_sized.Symbol as is-sized-def
@@ -70,12 +72,10 @@ abbrev Known : ℕ → List Station → ℕ → Type 0
 Known n t i = FromHere (recordsOk n) t i
 
 judged : (n : ℕ) (t : List Station) (i : ℕ) (z : Bool) → i < length t → Known n t i → z ≡ recordOk n (i + 1) (getD t i noStation) → (z && recordsOk n (i + 1 + 1) (drop (i + 1) t)) ≡ recordsOk n 1 t
-unfolding recordsOk
-judged n t i z l here e = ap (λ (y : Bool). y && recordsOk n (i + 1 + 1) (drop (i + 1) t)) e ∙ one-on (recordsOk n) t i (λ s r rest. recordOk n s r && rest) (λ s r rs. refl) noStation l here
+judged n t i z l here e = scan-on (records-scan n) noStation t i z l (sym e) here
 
 all-judged : (n : ℕ) (t : List Station) (i : ℕ) → length t ≤ i → Known n t i → true ≡ recordsOk n 1 t
-unfolding recordsOk
-all-judged n t i l here = at-end (recordsOk n) t i l here
+all-judged n t i l here = scan-end (records-scan n) t i l here
 
 formed : (n : ℕ) (t : List Station) (z : Bool) → z ≡ sized (length t) n → (z && recordsOk n 1 t) ≡ wellFormed n t
 unfolding wellFormed
@@ -102,7 +102,7 @@ module _ {M : Type 1} (𝓤 : URA M) (H : Heap 𝓤) (A : Atoms 𝓤) (W : Given
       nothing ! $ owned ! usize (Is usize) (uint-makes 𝓤 H A W w64) n _ (refl, n<) $ fjoin ! $ move ! (1 ∷ 0 ∷ []) $ fjoin ! $ frame ! $ owned ! bool (Is bool) (bool-makes 𝓤 H A W) r _ refl $ done !
 
   module _ (𝓣 : Tables 𝓤 H) (sizes : Triple 𝓤 (𝓣 .C #table·is-sized) (Promise 𝓤 H A is-sized.ended (is-sized.clauses 𝓤 H A mem run)))
-      (judges : Triple 𝓤 (𝓣 .C #station·record-ok) (Promise 𝓤 H A record-ok.ended (record-ok.clauses 𝓤 H A mem run))) where
+      (judges : Triple 𝓤 (𝓣 .C #form·record-ok) (Promise 𝓤 H A record-ok.ended (record-ok.clauses 𝓤 H A mem run))) where
     module _ (l₀ l₁ l₂ l₃ l₄ l₅ l₆ l₇ l₈ l₉ l₁₀ l₁₁ : ℕ) where
       abbrev E : Env 𝓤 H
       E = (tyBool, l₀) ∷ (shownTy, l₁) ∷ (tyInt w64, l₂) ∷ (tyInt w64, l₃) ∷ (Sn′.mir, l₄) ∷ (tyBool, l₅) ∷ (tyInt w64, l₆) ∷ (tyInt w64, l₇) ∷ (tyBool, l₈) ∷ (tyPtr, l₉) ∷ (Sn′.mir, l₁₀) ∷ (tyBool, l₁₁) ∷ []
@@ -121,10 +121,10 @@ module _ {M : Type 1} (𝓤 : URA M) (H : Heap 𝓤) (A : Atoms 𝓤) (W : Given
       abbrev Passed : Out → SProp 𝓤
       Passed = afterSeq 𝓤 H (Wp 𝓤 H (𝓣 .C) (𝓣 .Λ) E body.t-4 (atReturn 𝓤 H E Post)) (atReturn 𝓤 H E Post)
 
-      turn : sized (length t) n ≡ true → (x : Far)
+      pass : sized (length t) n ≡ true → (x : Far)
           → Sq W (Inv x) (runs (𝓣 .C) (𝓣 .Λ) E body.turn-1 (anyQ (afterTurn 𝓤 H (Below 𝓤 H A (Nearer (length t) (Known n t)) Inv x) (afterBlock 𝓤 H (afterSeq 𝓤 H (Wp 𝓤 H (𝓣 .C) (𝓣 .Λ) E ending Passed) Passed)))))
       unfolding afterTurn
-      turn ok x =
+      pass ok x =
           sets ! (of-opd ! (field-of ! 23 refl refl refl)) 11 refl (tt, record { fits = room .0 }) $
           sets ! (bin ! (local ! 19 refl) (local ! 11 refl) tt) 9 refl (tt, tt) $
           tests ! (local ! 9 refl)
@@ -178,7 +178,7 @@ module _ {M : Type 1} (𝓤 : URA M) (H : Heap 𝓤) (A : Atoms 𝓤) (W : Given
         passes ! (local ! 15 refl)
         (λ y.
         forget ! 13 refl $ forget ! 15 refl $ sets ! (of-opd ! (lit ! tt)) 19 refl (tt, record { fits = lit< tt }) $
-        first ! $ blocks ! $ loops ! 𝓣 (Nearer (length t) (Known n t)) (ends (length t) (Known n t)) (Inv l₀ l₁ l₂ l₃ l₄ l₅ l₆ l₇ l₈ l₉ l₁₀ l₁₁) (turn l₀ l₁ l₂ l₃ l₄ l₅ l₆ l₇ l₈ l₉ l₁₀ l₁₁ (sym e ∙ is-true z y))
+        first ! $ blocks ! $ loops ! 𝓣 (Nearer (length t) (Known n t)) (ends (length t) (Known n t)) (Inv l₀ l₁ l₂ l₃ l₄ l₅ l₆ l₇ l₈ l₉ l₁₀ l₁₁) (pass l₀ l₁ l₂ l₃ l₄ l₅ l₆ l₇ l₈ l₉ l₁₀ l₁₁ (sym e ∙ is-true z y))
         (record { i = 0; within = omega arith; known = refl }))
         (λ y.
         sets ! (of-opd ! (false-lit !)) 25 refl (tt, tt) $ returns ! (look ! 25 refl) $
@@ -186,7 +186,7 @@ module _ {M : Type 1} (𝓤 : URA M) (H : Heap 𝓤) (A : Atoms 𝓤) (W : Given
         by ! (exits false (formed n t false (sym (is-false z y) ∙ e)))))))))))))))))
 
 module _ {M : Type 1} (𝓤 : URA M) (H : Heap 𝓤) (A : Atoms 𝓤) (W : Given 𝓤 H A) (mem : Memory → SProp 𝓤) (run : Routine → Fun 𝓤) (𝓣 : Tables 𝓤 H)
-    (sizes : Triple 𝓤 (𝓣 .C #table·is-sized) (Promise 𝓤 H A is-sized.ended (is-sized.clauses 𝓤 H A mem run))) (judges : Triple 𝓤 (𝓣 .C #station·record-ok) (Promise 𝓤 H A record-ok.ended (record-ok.clauses 𝓤 H A mem run))) where
+    (sizes : Triple 𝓤 (𝓣 .C #table·is-sized) (Promise 𝓤 H A is-sized.ended (is-sized.clauses 𝓤 H A mem run))) (judges : Triple 𝓤 (𝓣 .C #form·record-ok) (Promise 𝓤 H A record-ok.ended (record-ok.clauses 𝓤 H A mem run))) where
   well-formed-walks : Walks 𝓤 H A f.ended stayed (WpFn 𝓤 H (𝓣 .C) (𝓣 .Λ) code.function) (f.clauses 𝓤 H A mem run)
   well-formed-walks = walked 𝓤 H A f.ended stayed (f.clauses 𝓤 H A mem run) (WpFn 𝓤 H (𝓣 .C) (𝓣 .Λ) code.function) (λ κs. (slice-vals, (uint-vals w64, tt))) (λ κs. (shr-slice-tells (named 0) (κs .0) Sn.the-row, (uint-tells w64, tt)))
       (λ κs qs bounds a g are. via 𝓤 _ (fst∗ 𝓤 _ (emp 𝓤)) (walk 𝓤 H A W mem run (κs .0) (qs .0) (a .0 .ptr .0) (a .0 .ptr .1) (a .0 .name) (a .0 .now) (a .1 .0) (are .0 .0 .1) (are .1 .0 .1) 𝓣 sizes judges))
@@ -202,4 +202,4 @@ well-formed-spec 𝓤 H 𝓜 𝓖 𝓡 =
     (tables 𝓤 H 𝓜 𝓡 code.env .C) (tables 𝓤 H 𝓜 𝓡 code.env .Λ) #table·well-formed code.function (code.unfolded 𝓤 H 𝓜 𝓡)
     (well-formed-meets 𝓤 H (𝓖 .A) (givenOf 𝓤 H 𝓜 𝓖) (𝓜 .mem) (𝓡 .run) (tablesOf 𝓤 H 𝓜 (tables 𝓤 H 𝓜 𝓡 code.env))
     (cited 𝓤 H (Promise 𝓤 H (𝓖 .A) is-sized.ended (is-sized.clauses 𝓤 H (𝓖 .A) (𝓜 .mem) (𝓡 .run))) 𝓜 𝓡 code.env #table·is-sized is-sized-def.routine code.calls-table·is-sized (is-sized-thm.met 𝓤 H 𝓜 𝓖 𝓡))
-    (cited 𝓤 H (Promise 𝓤 H (𝓖 .A) record-ok.ended (record-ok.clauses 𝓤 H (𝓖 .A) (𝓜 .mem) (𝓡 .run))) 𝓜 𝓡 code.env #station·record-ok record-ok-def.routine code.calls-station·record-ok (record-ok-thm.met 𝓤 H 𝓜 𝓖 𝓡)))
+    (cited 𝓤 H (Promise 𝓤 H (𝓖 .A) record-ok.ended (record-ok.clauses 𝓤 H (𝓖 .A) (𝓜 .mem) (𝓡 .run))) 𝓜 𝓡 code.env #form·record-ok record-ok-def.routine code.calls-form·record-ok (record-ok-thm.met 𝓤 H 𝓜 𝓖 𝓡)))

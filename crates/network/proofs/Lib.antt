@@ -1,0 +1,2 @@
+-- What both walks of this crate share.
+pub mod ByValue

@@ -1,0 +1,2 @@
+-- What a reader must believe: a network by value.
+pub mod Network

@@ -1,0 +1,38 @@
+-- Proof of `enter`: refused outside Waiting, then with answers due, else accepted.
+use borrow.Author.Tests.{eq-eqb, ne-eqb}
+use Rattle.rows.specs.Rows.{enterRule}
+use borrow.Author.Needs.{needs}
+use Rattle.rows.proofs.enter.Statement.{statement}
+use Rattle.rows.proofs.enter.Tie as tie
+
+outcome-of-requires : tie.Need-outcome-of-requires
+outcome-of-requires c κs = search needs
+
+returns : tie.Need-returns
+unfolding enterRule
+returns c = simp (ne-eqb _ _ (c .before .if1 .taken), c .outcome-of .ensures)
+
+outcome-of-requires-2 : tie.Need-outcome-of-requires-2
+outcome-of-requires-2 c κs = search needs
+
+returns-2 : tie.Need-returns-2
+unfolding enterRule
+returns-2 c = simp (eq-eqb _ _ (c .before .before .before .if1 .left), ne-eqb _ _ (c .before .if2 .taken), c .outcome-of2 .ensures)
+
+outcome-of-requires-3 : tie.Need-outcome-of-requires-3
+outcome-of-requires-3 c κs = search needs
+
+returns-3 : tie.Need-returns-3
+unfolding enterRule
+returns-3 c = simp (eq-eqb _ _ (c .before .before .before .if1 .left), eq-eqb _ _ (c .before .if2 .left), c .outcome-of3 .ensures)
+
+pub enter-spec : {M : Type 1} → statement M
+enter-spec =
+    tie.close
+    (tie.spec
+    outcome-of-requires
+    returns
+    outcome-of-requires-2
+    returns-2
+    outcome-of-requires-3
+    returns-3)
