@@ -2,7 +2,7 @@
 use mathlib.Core.Path.{refl}
 use Rattle.table.specs.Table.{openCode, openAfter}
 use Rattle.demands.specs.Cases.{StarredCases, met, all, same, keptUnless, holds, cases}
-use Rattle.demands.proofs.Computed.{computed}
+use Rattle.engines.proofs.Computed.{computed}
 
 pub starred-cases : StarredCases
 unfolding computed openCode openAfter met all same keptUnless holds cases

@@ -14,7 +14,8 @@ use Rattle.figure1.specs.Figure1.{State, initial, Label, Run, stop}
 use Rattle.figure1.proofs.Reached.{counting}
 use Rattle.figure1.proofs.Slots.{one-message}
 use Rattle.figure1.proofs.Runs.{run-append, run-determined}
-use Rattle.demands.specs.Demands.{ours, tableAfter, acceptedOf, reached, word, words, Takes, Demand2}
+use Rattle.engines.specs.Engines.{ours, tableAfter, acceptedOf, reached}
+use Rattle.demands.specs.Demands.{word, words, Takes, Demand2}
 use Rattle.demands.proofs.Mirrors.{Mirrors, shows, opened-mirrors}
 use Rattle.demands.proofs.Works.{Works}
 use Rattle.demands.proofs.Matching.{run-follows, word-works}

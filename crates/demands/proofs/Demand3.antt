@@ -14,9 +14,10 @@ use Rattle.station.specs.Names.{IDLE, SENDING, WAITING, HOLDING, GIVING}
 use Rattle.table.specs.Table.{headIn, cellsIn, opened}
 use Rattle.figure1.specs.Figure1.{Location, m1, m2, m31, m32, m4, m5, m6, m71, m72, Node, State}
 use Rattle.figure1.specs.Assertions.{bit, In, entered, sending, is, weight}
-use Rattle.figure1.proofs.Theorems.{excl-or-leaving, message-chain}
-use Rattle.figure1.proofs.Overtaking.{overtaking}
-use Rattle.demands.specs.Demands.{Engine, ours, reached, placeAt, requestQueue, answerQueue, Shows, Demand2, underWay, Demand3}
+use Rattle.figure1.proofs.Theorems.{asserted, excl-or-leaving}
+use Rattle.figure1.proofs.Overtaking.{overtakes-once}
+use Rattle.engines.specs.Engines.{ours, reached}
+use Rattle.demands.specs.Demands.{placeAt, requestQueue, answerQueue, Shows, underWay, Demand3, Demand3Follows}
 use Rattle.demands.proofs.Lists.{run-after, begun, accepted-next, entries-words}
 use Rattle.demands.proofs.Demand2.{demand-2}
 
@@ -73,21 +74,21 @@ not-both b m6 = omega arith
 not-both b m71 = omega arith
 not-both b m72 = omega arith
 
-pub demand-3-of : (E : Engine) → Demand2 E → Demand3 E
-demand-3-of E D n C = record {
+pub demand-3-follows : Demand3Follows
+demand-3-follows E D n C = record {
   one-holder = λ xs i j H K h k.
       let F = D n C .follows xs in
       excl-or-leaving (F .run) i j H K (holder-entered (F .shows) i H h) (holder-entered (F .shows) j K k);
   one-errand = λ xs i j H K.
       let F = D n C .follows xs in
-      omega (arith, weight-shown (F .shows) i j H K, message-chain (F .run) i j H K, not-both (ltb j (F .state .node i .p)) (F .state .node i .at));
+      omega (arith, weight-shown (F .shows) i j H K, asserted (F .run) .message-chain i j H K, not-both (ltb j (F .state .node i .p)) (F .state .node i .at));
   one-entry = λ xs y z h ys none.
       let F = D n C .follows xs in
       let t = E .after n (reached E n xs) (TakeRequest y z) in
       let whole = D n C .follows (xs ++ (TakeRequest y z ∷ ys)) .run in
       let Q = begun (run-after (F .run) (rw (accepted-next E n opened xs (TakeRequest y z) ys h) at whole)) in
-      omega (arith, entries-words E n y t ys, overtaking y z (F .run) (Q .0) (Q .1) (sym (entries-words E n z t ys) ∙ none));
+      omega (arith, entries-words E n y t ys, overtakes-once _ _ _ _ _ y z (F .run) (Q .0) (Q .1) (sym (entries-words E n z t ys) ∙ none));
 }
 
 pub demand-3 : Demand3 ours
-demand-3 = demand-3-of ours demand-2
+demand-3 = demand-3-follows ours demand-2

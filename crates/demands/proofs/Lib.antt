@@ -13,9 +13,7 @@ pub mod Verdicts
 pub mod Demand2
 pub mod Lists
 pub mod Demand3
-pub mod Computed
 pub mod Cases
 pub mod Useless
-pub mod Rounds
-pub mod ShortRuns
 pub mod OneOutcome
+pub mod Bench

@@ -1,4 +1,4 @@
--- Lists of steps and of transitions: put end to end and taken apart, and the entries in them.
+-- Lists of steps as lists of transitions: taken apart, and the entries in them.
 use mathlib.Core.Path.{_≡_, refl, sym}
 use mathlib.Core.Bool.{Bool, true, false, cond, _&&_}
 use mathlib.Core.List.{List, [], _∷_, _++_, append-assoc}
@@ -13,7 +13,9 @@ use Rattle.station.specs.Names.{ACCEPTED}
 use Rattle.figure1.specs.Figure1.{State, Label, can, does, Run, stop, move}
 use Rattle.figure1.specs.Assertions as claims
 use Rattle.figure1.specs.Assertions.{bit}
-use Rattle.demands.specs.Demands.{Engine, accepts, tableAfter, acceptedOf, word, words, enters, entries}
+use Rattle.engines.specs.Engines.{Engine, accepts, tableAfter, acceptedOf, enters, entries}
+use Rattle.engines.proofs.Lists.{accepted-append}
+use Rattle.demands.specs.Demands.{word, words}
 
 words-append : (xs ys : List Step) → words (xs ++ ys) ≡ words xs ++ words ys
 unfolding words
@@ -47,11 +49,7 @@ word-entries y (Give s) ls = omega (arith, not-m4 (eqb s y))
 word-entries y (TakeRequest s t) ls = refl
 word-entries y (TakeAnswer s t) ls = refl
 
--- a step that is kept or dropped: before what follows, and among the entries
-kept-append : (b : Bool) (x : Step) (us vs : List Step) → cond b (x ∷ us) us ++ vs ≡ cond b (x ∷ (us ++ vs)) (us ++ vs)
-kept-append true x us vs = refl
-kept-append false x us vs = refl
-
+-- a step that is kept or dropped, among the entries
 kept-entries : (y : ℕ) (b : Bool) (x : Step) (us : List Step)
     → claims.entries y (words (cond b (x ∷ us) us)) ≡ bit (b && enters y x) + claims.entries y (words us)
 unfolding words
@@ -59,30 +57,12 @@ kept-entries y true x us = word-entries y x (words us)
 kept-entries y false x us = sym (zero-add _)
 
 module _ (E : Engine) (n : ℕ) where
-  pub after-append : (t : List Station) (xs ys : List Step) → tableAfter E n t (xs ++ ys) ≡ tableAfter E n (tableAfter E n t xs) ys
-  unfolding tableAfter
-  after-append t [] ys = refl
-  after-append t (x ∷ xs) ys = after-append (E .after n t x) xs ys
-
-  pub entries-append : (y : ℕ) (t : List Station) (xs ys : List Step)
-      → entries E n y t (xs ++ ys) ≡ entries E n y t xs + entries E n y (tableAfter E n t xs) ys
-  unfolding tableAfter entries
-  entries-append y t [] ys = sym (zero-add _)
-  entries-append y t (x ∷ xs) ys = omega (arith, entries-append y (E .after n t x) xs ys)
-
-  accepted-append : (t : List Station) (xs ys : List Step)
-      → acceptedOf E n t (xs ++ ys) ≡ acceptedOf E n t xs ++ acceptedOf E n (tableAfter E n t xs) ys
-  unfolding acceptedOf tableAfter
-  accepted-append t [] ys = refl
-  accepted-append t (x ∷ xs) ys =
-      rw (accepted-append (E .after n t x) xs ys) (sym (kept-append (accepts E n t x) x (acceptedOf E n (E .after n t x) xs) _))
-
   -- a step accepted after others, in the program's transitions
   pub accepted-next : (t : List Station) (xs : List Step) (x : Step) (ys : List Step) → E .answer n (tableAfter E n t xs) x ≡ ACCEPTED
       → words (acceptedOf E n t (xs ++ (x ∷ ys)))
       ≡ words (acceptedOf E n t xs) ++ (word x ++ words (acceptedOf E n (E .after n (tableAfter E n t xs) x) ys))
   unfolding acceptedOf words
-  accepted-next t xs x ys h = rw (accepted-append t xs (x ∷ ys), words-append (acceptedOf E n t xs), h)
+  accepted-next t xs x ys h = rw (accepted-append E n t xs (x ∷ ys), words-append (acceptedOf E n t xs), h)
 
   pub entries-words : (y : ℕ) (t : List Station) (xs : List Step) → entries E n y t xs ≡ claims.entries y (words (acceptedOf E n t xs))
   unfolding entries acceptedOf words claims.entries

@@ -17,7 +17,8 @@ use Rattle.figure1.specs.Figure1.{m1, m2, m31, m32, m4, m5, m6, m71, m72, State
 use Rattle.figure1.proofs.Sums.{put-here}
 use Rattle.figure1.proofs.Enabled.{can-main, can-take}
 use Rattle.figure1.proofs.Runs.{run-append}
-use Rattle.demands.specs.Demands.{ours, tableAfter, acceptedOf, word, stepAt, stepsOf, NumberLeft, NumbersLeft}
+use Rattle.engines.specs.Engines.{ours, tableAfter, acceptedOf}
+use Rattle.demands.specs.Demands.{word, stepAt, stepsOf, NumberLeft, NumbersLeft}
 use Rattle.demands.proofs.Mirrors.{Mirrors}
 use Rattle.demands.proofs.Works.{Works}
 use Rattle.demands.proofs.Statements.{m1-stays, m2-works, m31-stays, m32-works, m4-works, m5-stays, m6-works, m71-stays, m72-works}

@@ -8,13 +8,13 @@ use Rattle.demands.specs.OneOutcome.{Fixes, OneOutcome}
 equation : {A : Type 0} (d : A) → Fixes {A = A} (λ r. r ≡ d)
 equation d a b p q = p ∙ sym q
 
--- a result, and what is left of what was lent
-two-equations : {A B : Type 0} (d : A) (e : B) → Fixes {A = A × B} (λ o. (o .0 ≡ d) × (o .1 ≡ e))
-two-equations d e a b p q = λ i. (equation d (a .0) (b .0) (p .0) (q .0) i, equation e (a .1) (b .1) (p .1) (q .1) i)
+-- two equations, of a result and of what is left of what was lent
+two-equations : {A B : Type 0} {a a′ d : A} {b b′ e : B} → a ≡ d → b ≡ e → a′ ≡ d → b′ ≡ e → _≡_ {A = A × B} (a, b) (a′, b′)
+two-equations p q r s = λ i. ((p ∙ sym r) i, (q ∙ sym s) i)
 
 ran : (input old : List ℕ) → Fixes {A = ℕ × List ℕ} (λ o. Ran input old (o .1) (o .0))
 ran input old a b p q =
-    let counts : a .0 ≡ b .0 = equation _ (a .0) (b .0) (p .count) (q .count) in
+    let counts : a .0 ≡ b .0 = p .count ∙ sym (q .count) in
     let bytes : a .1 ≡ b .1 = p .bytes ∙ rw counts (sym (q .bytes)) in
     λ i. (counts i, bytes i)
 
@@ -25,14 +25,14 @@ one-outcome = record {
   stations-ok = λ n x. equation _;
   named-by = λ x. equation _;
   peer-of = λ x next. equation _;
-  index-of = λ s a b p q. equation _ a b (p .0) (q .0);
+  index-of = λ s. equation _;
   is-asking = λ place. equation _;
   act = λ n x head mine theirs. equation _;
   new-station = equation _;
   record-ok = λ n s r. equation _;
-  open-table = λ n t. two-equations _ _;
+  open-table = λ n t a b p q. two-equations (p .answers) (p .leaves) (q .answers) (q .leaves);
   well-formed = λ n t. equation _;
-  step = λ n t x. two-equations _ _;
+  step = λ n t x a b p q. two-equations (p .answers) (p .leaves) (q .answers) (q .leaves);
   holder-of = λ t. equation _;
   head-of = λ t s. equation _;
   byte-of = λ high low. equation _;
@@ -41,6 +41,6 @@ one-outcome = record {
   frame-at = λ input at. equation _;
   open-network = λ n. equation _;
   step-network = λ t n x. equation _;
-  room-for = λ len. equation _;
+  room-for = λ len most a b p q. equation _ a b (p .room) (q .room);
   run = ran;
 }

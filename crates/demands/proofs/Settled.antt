@@ -16,7 +16,7 @@ use Rattle.station.proofs.Laws.{by-test}
 use Rattle.figure1.specs.Figure1.{Location, m1, m31, m32, m4, m5, m71, m72, Node, State, initial, Label, M, q1, r1, Run, stop, move, can, does, put, first, main, number, passes, some, isNode, at≔, rd≔, raised, replied, grants}
 use Rattle.figure1.specs.Assertions.{In}
 use Rattle.figure1.proofs.Sums.{put-here, put-there}
-use Rattle.figure1.proofs.Theorems.{request-in-channel}
+use Rattle.figure1.proofs.Theorems.{asserted}
 use Rattle.figure1.proofs.Runs.{run-append}
 use Rattle.demands.specs.Demands.{Takes, word, placeAt, NumberLeft}
 use Rattle.demands.proofs.Stations.{is-node}
@@ -131,7 +131,7 @@ module _ {n : ℕ} where
     }
       where
         seen : raised (first (σ .chq u s)) (σ .node s) .hsn ≤ LAST_NUMBER
-        seen = no-higher _ _ (H s S .high) (rw (request-in-channel R u s U S h) (H u U .own))
+        seen = no-higher _ _ (H s S .high) (rw (asserted R .request-in-channel u s U S h) (H u U .own))
 
     pub answered : 0 < length (σ .chp u s) → Proceeds n σ (TakeAnswer s u)
     unfolding can does

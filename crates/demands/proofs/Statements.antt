@@ -20,7 +20,7 @@ use Rattle.table.specs.Table.{cellsIn}
 use Rattle.figure1.specs.Figure1.{m1, m2, m31, m32, m4, m5, m6, m71, m72, Node, State, initial, Label, M, Run, does, put, send, at≔, asked, counted, released, rd≔}
 use Rattle.figure1.specs.Assertions.{bit, In, looping}
 use Rattle.figure1.proofs.Sums.{put-here, put-there, put₂-here, put₂-row}
-use Rattle.figure1.proofs.Theorems.{p-range, rcs-range}
+use Rattle.figure1.proofs.Theorems.{asserted}
 use Rattle.figure1.proofs.Reached.{counting}
 use Rattle.figure1.proofs.Slots.{asked-once, no-self, room-to-send, room-to-give}
 use Rattle.demands.specs.Demands.{headShown}
@@ -81,7 +81,7 @@ module _ {n : ℕ} (C : Count n) {ls : List Label} {σ : State} (R : Run n initi
 
   -- ---- steps to p
   peer : bit (looping (a .at)) ≡ 1 → In n (a .p)
-  peer e = let r = p-range R s S in omega arith
+  peer e = let r = asserted R .p-range s S in omega arith
 
   abbrev mine : Cells
   mine = cellsIn t (s - 1) (a .p - 1)
@@ -121,7 +121,7 @@ module _ {n : ℕ} (C : Count n) {ls : List Label} {σ : State} (R : Run n initi
         empty = no-request (theirs .request) (ap length (sym (m .wires (a .p) s P S .request) ∙ room))
 
         own : 1 ≤ a .osn
-        own = asked-once (counting R) s S (rcs-range R s S ∙ rw e)
+        own = asked-once (counting R) s S (asserted R .rcs-range s S ∙ rw e)
 
     pub m32-works : Works n t (Send s) (does n σ (M m32 s))
     unfolding does

@@ -17,7 +17,7 @@ use Rattle.table.specs.Table.{cellsIn}
 use Rattle.figure1.specs.Figure1.{Node, State, initial, Label, q1, r1, Run, does, put, put₂, send, others, rd≔, raised, replied}
 use Rattle.figure1.specs.Assertions.{In}
 use Rattle.figure1.proofs.Sums.{put-here, put-there, put₂-here, put₂-row}
-use Rattle.figure1.proofs.Theorems.{rcs-range}
+use Rattle.figure1.proofs.Theorems.{asserted}
 use Rattle.figure1.proofs.Reached.{counting}
 use Rattle.figure1.proofs.Slots.{no-self, room-to-judge, reply-due}
 use Rattle.demands.specs.Demands.{placeAt}
@@ -115,7 +115,7 @@ module _ {n : ℕ} (C : Count n) {ls : List Label} {σ : State} (R : Run n initi
 
     pub q1-works : Works n t (TakeRequest s u) (does n σ (q1 s u))
     unfolding does
-    q1-works = rw (slot .1, grants-shown n a (rcs-range R s S) (mine .request) u s)
+    q1-works = rw (slot .1, grants-shown n a (asserted R .rcs-range s S) (mine .request) u s)
         (go (answersNow (mine .request) u (placeAt n (a .at) a) (a .osn) s) refl)
       where
         go : (b : Bool) → answersNow (mine .request) u (placeAt n (a .at) a) (a .osn) s ≡ b

@@ -6,14 +6,17 @@ use native.Mathlib.Omega.{arith}
 use Rattle.station.specs.declared.Head.{Head}
 use Rattle.station.specs.declared.Step.the-variants.{Ask, Enter}
 use Rattle.figure1.specs.Figure1.{State, initial, M, m1, m2, m31, can, does, put, Run, stop, move}
-use Rattle.demands.specs.Demands.{Demand2, acceptedOf, words, word, Engine, ours, tableAfter, reached, OneHolder}
+use Rattle.engines.specs.Engines.{acceptedOf, Engine, ours, tableAfter, reached}
+use Rattle.demands.specs.Demands.{Demand2, words, word, OneHolder}
 use Rattle.demands.specs.Useless.{refusesAll, saysAccepted, doesNothing, worksOnce, allIdle, ShutsOut, PassFirstSentence}
-use Rattle.demands.proofs.Computed.{computed}
-use Rattle.demands.proofs.Lists.{begun, after-append}
-use mathlib.Core.Logic.{_⊎_, inl, inr}
+use Rattle.engines.proofs.Computed.{computed}
+use Rattle.engines.proofs.Lists.{after-append}
+use Rattle.demands.proofs.Lists.{begun}
+use mathlib.Core.Logic.{_≢_, _⊎_, inl, inr}
 use Prim.Native.Nat.{ℕ}
 use Rattle.station.specs.declared.Station.{Station}
 use Rattle.station.specs.declared.Step.{Step}
+use Rattle.station.specs.Names.{ACCEPTED}
 use Rattle.station.specs.Stations.{countOk}
 use Rattle.table.specs.Table.{after}
 use Rattle.demands.proofs.Demand3.{demand-3}
@@ -32,9 +35,9 @@ unfolding can does put
 asks = move refl (move refl (move refl stop))
 
 -- takes-accepted: the program can take Ask 1 at the start
-refuses-all : Demand2 refusesAll → ⊥
+refuses-all : (code : ℕ) → code ≢ ACCEPTED → Demand2 (refusesAll code) → ⊥
 unfolding acceptedOf words
-refuses-all D = absurd (omega (arith, D 2 two .takes-accepted [] initial stop (Ask 1) (record { next = asked; run = asks; number = omega arith })))
+refuses-all code refused D = refused (D 2 two .takes-accepted [] initial stop (Ask 1) (record { next = asked; run = asks; number = omega arith }))
 
 -- accepted-takes: the program cannot take Enter 1 at the start
 says-accepted : Demand2 saysAccepted → ⊥
@@ -43,14 +46,14 @@ says-accepted D = false≢true (begun (D 2 two .accepted-takes [] initial stop (
 
 -- lands: after Ask 1 the program's node 1 sends, and the table has station 1 in Idle
 does-nothing : Demand2 doesNothing → ⊥
-unfolding computed can does put
+unfolding computed can does put words
 does-nothing D =
     let shown = D 2 two .lands [] initial stop (Ask 1) refl asked asks .heads 1 (record { low = omega arith; high = omega arith }) in
     absurd (omega (arith, ap (λ (h : Head). h .place) shown))
 
 -- accepted-takes: after Ask 1 the program cannot take it again
 works-once : Demand2 worksOnce → ⊥
-unfolding computed can does put allIdle
+unfolding computed can does put allIdle words
 works-once D = false≢true (begun (D 2 two .accepted-takes (Ask 1 ∷ []) asked asks (Ask 1) refl .run) .0)
 
 pub shuts-out : ShutsOut
@@ -92,10 +95,10 @@ either : (b : Bool) (t u : List Station) → (cond b t u ≡ t) ⊎ (cond b t u 
 either true t u = inl refl
 either false t u = inr refl
 
-pub pass-first-sentence : (n : ℕ) → countOk n ≡ true → PassFirstSentence n
-pass-first-sentence n ok = record {
-  refuses-all = passes n ok refusesAll (λ n t x. inr refl);
-  says-accepted = passes n ok saysAccepted (λ n t x. inr refl);
-  does-nothing = passes n ok doesNothing (λ n t x. inr refl);
-  works-once = passes n ok worksOnce (λ n t x. either (allIdle t) (after n t x) t);
+pub pass-first-sentence : PassFirstSentence
+pass-first-sentence = record {
+  refuses-all = λ code n ok. passes n ok (refusesAll code) (λ n t x. inr refl);
+  says-accepted = λ n ok. passes n ok saysAccepted (λ n t x. inr refl);
+  does-nothing = λ n ok. passes n ok doesNothing (λ n t x. inr refl);
+  works-once = λ n ok. passes n ok worksOnce (λ n t x. either (allIdle t) (after n t x) t);
 }

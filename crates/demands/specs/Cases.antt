@@ -12,7 +12,8 @@ use Rattle.station.specs.declared.Step.{Step}
 use Rattle.station.specs.declared.Step.the-variants.{Ask, Send, Enter, TakeRequest, TakeAnswer}
 use Rattle.station.specs.Names.{IDLE, SENDING, WAITING, ACCEPTED, BAD_COUNT, NOT_WELL_FORMED, NO_SUCH_STATION, WRONG_PLACE, EMPTY_WIRE, NO_NUMBER_LEFT, AT_ODDS}
 use Rattle.table.specs.Table.{noStation, headIn, cellsIn, putHead, putCells, opened, openAnswer, openAfter, answer, after}
-use Rattle.demands.specs.Demands.{ours, tableAfter}
+use Rattle.runs.specs.ShortRuns.{tie}
+use Rattle.engines.specs.Engines.{ours, tableAfter}
 
 -- ---- the form of a case
 -- a field read out of a table, and what it is: of station s, or at station s for the peer t
@@ -80,12 +81,8 @@ doctored =
       mark = false;
     })
 
--- "Tie, N = 2, both asked with number 1 and both sent to the end"
-abbrev pub tie : List Step
-tie = Ask 1 ∷ Ask 2 ∷ Send 1 ∷ Send 1 ∷ Send 2 ∷ Send 2 ∷ []
-
 -- ---- the cases
--- the code is the one given, a refusal keeps the table, and the fields are met; an opening is tried over records of zeros, which it would not leave so
+-- the code is the one given, a refusal keeps the table, and the fields are met; an opening is tried over records that are not new ones, so that one that wrote would show
 unfoldable pub holds : Case → Bool
 holds (opening n records code) =
     let t = replicate records noStation in

@@ -1,7 +1,7 @@
--- Demands 2 and 3, of an engine's rules: any pair of an answer and an after. This one file says what was proved; its terms are those of Figure 1 (crate figure1) and of 01's table (crate table).
+-- Demands 2 and 3, of an engine's rules. Its terms are those of Figure 1 (crate figure1), of 01's table (crate table) and of what an engine makes of a list of steps (crate engines).
 use mathlib.Core.Path.{_≡_}
 use mathlib.Core.Logic.{_≢_}
-use mathlib.Core.Bool.{Bool, true, false, cond, not, _&&_}
+use mathlib.Core.Bool.{Bool, true, cond, not}
 use mathlib.Core.List.{List, [], _∷_, _++_}
 use Prim.Native.Nat.{ℕ, _+_, _-_, _≤_, _<_}
 use lib.Dec.{eqb, leb}
@@ -13,36 +13,9 @@ use Rattle.station.specs.declared.Step.the-variants.{Ask, Send, Enter, Leave, G
 use Rattle.station.specs.Names.{IDLE, SENDING, WAITING, HOLDING, GIVING, LAST_NUMBER, ACCEPTED, NOT_WELL_FORMED, AT_ODDS}
 use Rattle.station.specs.Stations.{countOk}
 use Rattle.table.specs.Table.{headIn, cellsIn, opened, wellFormed, answer, after}
+use Rattle.engines.specs.Engines.{Engine, reached, acceptedOf, entries}
 use Rattle.figure1.specs.Assertions.{bit, In}
 use Rattle.figure1.specs.Figure1.{Location, m1, m2, m31, m32, m4, m5, m6, m71, m72, Node, State, initial, Label, M, q1, r1, does, Run}
-
--- ---- an engine, and what it makes of a list of offered steps
--- an engine is what it answers to a step and what it leaves, for any count and table
-pub record Engine : Type 0 where
-  pub answer : ℕ → List Station → Step → ℕ
-  pub after : ℕ → List Station → Step → List Station
-
--- the rules that the contract of `table::step` cites
-abbrev pub ours : Engine
-ours = record { answer = answer; after = after }
-
--- 01, code 0: "accepted"
-abbrev pub accepts : Engine → ℕ → List Station → Step → Bool
-accepts E n t x = eqb (E .answer n t x) ACCEPTED
-
--- the table after a list of offered steps, refused ones among them
-unfoldable pub tableAfter : Engine → ℕ → List Station → List Step → List Station
-tableAfter E n t [] = t
-tableAfter E n t (x ∷ xs) = tableAfter E n (E .after n t x) xs
-
--- "Open a network .. and offer any list of steps, refused ones among them"
-abbrev pub reached : Engine → ℕ → List Step → List Station
-reached E n xs = tableAfter E n opened xs
-
--- those of the steps that are accepted
-unfoldable pub acceptedOf : Engine → ℕ → List Station → List Step → List Step
-acceptedOf E n t [] = []
-acceptedOf E n t (x ∷ xs) = cond (accepts E n t x) (x ∷ acceptedOf E n (E .after n t x) xs) (acceptedOf E n (E .after n t x) xs)
 
 -- ---- how steps and transitions correspond: 01, "Against Figure 1"
 -- "m1 and m2 are Ask; m32 is Send; m4 is Enter; m5 and m6 are Leave; m72 is Give; q1 and r1 are the takes", with the loop test that follows
@@ -189,21 +162,6 @@ abbrev pub Demand2 : Engine → Type 0
 Demand2 E = (n : ℕ) → countOk n ≡ true → Demand2At E n
 
 -- ---- demand 3
--- Enter y, 01's step 2
-abbrev pub enters : ℕ → Step → Bool
-enters y (Ask s) = false
-enters y (Send s) = false
-enters y (Enter s) = eqb s y
-enters y (Leave s) = false
-enters y (Give s) = false
-enters y (TakeRequest s t) = false
-enters y (TakeAnswer s t) = false
-
--- how often Enter y is accepted
-unfoldable pub entries : Engine → ℕ → ℕ → List Station → List Step → ℕ
-entries E n y t [] = 0
-entries E n y t (x ∷ xs) = bit (accepts E n t x && enters y x) + entries E n y (E .after n t x) xs
-
 -- the request of i under way to j, j's mark for i and the answer of j under way to i, counted
 abbrev pub underWay : List Station → ℕ → ℕ → ℕ
 underWay t i j =
@@ -228,3 +186,7 @@ pub record Demand3At (E : Engine) (n : ℕ) : Type 0 where
 -- demand 3: for "a network of 2 to 32 stations"
 abbrev pub Demand3 : Engine → Type 0
 Demand3 E = (n : ℕ) → countOk n ≡ true → Demand3At E n
+
+-- "demand 3 is stated over those rules": it holds of every engine that meets demand 2
+abbrev pub Demand3Follows : Type 0
+Demand3Follows = (E : Engine) → Demand2 E → Demand3 E

@@ -1,16 +1,20 @@
 -- The four useless engines of 01, "Contracts that admit one outcome", and that demand 2 shuts each out.
+use mathlib.Core.Path.{_≡_}
+use mathlib.Core.Logic.{_≢_}
 use mathlib.Core.Bool.{Bool, true, cond, _&&_}
 use mathlib.Core.List.{List, [], _∷_}
 use Prim.Native.Nat.{ℕ}
 use lib.Dec.{eqb}
 use Rattle.station.specs.declared.Station.{Station}
-use Rattle.station.specs.Names.{IDLE, ACCEPTED, WRONG_PLACE}
+use Rattle.station.specs.Names.{IDLE, ACCEPTED}
+use Rattle.station.specs.Stations.{countOk}
 use Rattle.table.specs.Table.{answer, after}
-use Rattle.demands.specs.Demands.{Engine, Demand2, OneHolder}
+use Rattle.engines.specs.Engines.{Engine}
+use Rattle.demands.specs.Demands.{Demand2, OneHolder}
 
--- "one that refuses everything"
-abbrev pub refusesAll : Engine
-refusesAll = record { answer = λ n t x. WRONG_PLACE; after = λ n t x. t }
+-- "one that refuses everything", with whichever code
+abbrev pub refusesAll : ℕ → Engine
+refusesAll code = record { answer = λ n t x. code; after = λ n t x. t }
 
 -- "one that always reports code 0 with an unchanged table"
 abbrev pub saysAccepted : Engine
@@ -34,14 +38,14 @@ worksOnce = record {
 
 -- "demand 2 shuts out all four"
 pub record ShutsOut : Type 0 where
-  pub refuses-all : Demand2 refusesAll → ⊥
+  pub refuses-all : (code : ℕ) → code ≢ ACCEPTED → Demand2 (refusesAll code) → ⊥
   pub says-accepted : Demand2 saysAccepted → ⊥
   pub does-nothing : Demand2 doesNothing → ⊥
   pub works-once : Demand2 worksOnce → ⊥
 
--- "Each passes demand 3's first sentence"
-pub record PassFirstSentence (n : ℕ) : Type 0 where
-  pub refuses-all : OneHolder refusesAll n
-  pub says-accepted : OneHolder saysAccepted n
-  pub does-nothing : OneHolder doesNothing n
-  pub works-once : OneHolder worksOnce n
+-- "Each passes demand 3's first sentence", for "a network of 2 to 32 stations"
+pub record PassFirstSentence : Type 0 where
+  pub refuses-all : (code n : ℕ) → countOk n ≡ true → OneHolder (refusesAll code) n
+  pub says-accepted : (n : ℕ) → countOk n ≡ true → OneHolder saysAccepted n
+  pub does-nothing : (n : ℕ) → countOk n ≡ true → OneHolder doesNothing n
+  pub works-once : (n : ℕ) → countOk n ≡ true → OneHolder worksOnce n

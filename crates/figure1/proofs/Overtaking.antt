@@ -9,8 +9,8 @@ use native.Mathlib.Omega.{arith}
 use native.Mathlib.Decide.{ℕ-discrete}
 use lib.Dec.{leb, eqb}
 use borrow.Author.Tests.{eqb-true, eq-eqb}
-use Rattle.figure1.specs.Figure1.{Location, m1, m2, m31, m32, m4, m5, m6, m71, m72, Node, State, Label, M, q1, r1, can, does, main, passes, put, first, at≔, rd≔, counted, grants, Run, stop, move, initial}
-use Rattle.figure1.specs.Assertions.{bit, In, is, sending, asking, weight, enters, entries}
+use Rattle.figure1.specs.Figure1.{Location, m1, m2, m31, m32, m4, m5, m6, m71, m72, Node, State, Label, M, q1, r1, can, does, main, passes, put, first, at≔, rd≔, counted, grants, Run, stop, move}
+use Rattle.figure1.specs.Assertions.{bit, In, is, sending, asking, weight, enters, entries, OvertakesOnce}
 use Rattle.figure1.proofs.Sums.{sum-term, put-here, put-there}
 use Rattle.figure1.proofs.Enabled.{is-location, can-main, can-take}
 use Rattle.figure1.proofs.Errands.{far, outside}
@@ -198,10 +198,9 @@ heard N σ s t = go (grants s t (first (σ .chq t s)) (σ .node s)) refl
     go false q = rw (q, put-here) (higher _ _ .1)
 
 -- where y can take z's request, z waits; and once taken, y knows z's number
-pub overtaking : {N : ℕ} {ls ks : List Label} {σ τ : State} (y z : ℕ) → Run N initial ls σ → can N σ (q1 y z) ≡ true → Run N (does N σ (q1 y z)) ks τ
-    → entries z ks ≡ 0 → entries y ks ≤ 1
+pub overtakes-once : OvertakesOnce
 unfolding can
-overtaking {N = N} {σ = σ} y z R e Q h =
+overtakes-once N ls ks σ τ y z R e Q h =
     let C = counting R in
     let O = order R in
     let c = can-take N y z (σ .chq z y) e in

@@ -1,4 +1,4 @@
--- Section 3 of source 003, and two assertions of its section 5: true in every state that a run from the start reaches, for every N.
+-- The paper's assertions, from the two parts of the invariant.
 use mathlib.Core.Path.{_≡_, refl, sym, ap}
 use mathlib.Core.Logic.{_≢_, _⊎_, inl, inr}
 use mathlib.Core.Bool.{Bool, true, false, false≢true, not, _&&_, _||_, and-eq-true-iff}
@@ -10,7 +10,7 @@ use lib.ListN.{length}
 use lib.Dec.{eqb, ltb}
 use borrow.Author.Tests.{ltb-true, ltb-false, eqb-true, eqb-false, not-true}
 use Rattle.figure1.specs.Figure1.{Location, m1, m2, m31, m32, m4, m5, m6, m71, m72, State, Label, Run, initial, first}
-use Rattle.figure1.specs.Assertions.{bit, In, sum, is, sending, asking, looping, entered, weight, unsent, requested, request-received, granted, Lower}
+use Rattle.figure1.specs.Assertions.{bit, In, is, sending, asking, entered, weight, requested, request-received, granted, Lower, Assertions}
 use Rattle.figure1.proofs.Sums.{sum-term}
 use Rattle.figure1.proofs.Errands.{past, Before, reach, far, most, floor, bit-same}
 use Rattle.figure1.proofs.Counting.{Counting}
@@ -98,47 +98,20 @@ module _ {N : ℕ} {σ : State} (C : Counting N σ) (i j : ℕ) (H : In N i) (J 
       let z = at-rest (u .1) in
       O i j H J d .allowed (omega (arith, u .0, J .high)) (omega arith) (omega arith) (omega (arith, v .2, C .own j J .rcs-is))
 
-module _ {N : ℕ} {ls : List Label} {σ : State} (R : Run N initial ls σ) where
-  C : Counting N σ
-  C = counting R
-
-  O : Order N σ
-  O = order R
-
-  -- "1 ≤ p[i] ≤ N + 1 − m_32,72[i]"
-  pub p-range : (i : ℕ) → In N i → (1 ≤ σ .node i .p) × (σ .node i .p + bit (looping (σ .node i .at)) ≤ N + 1)
-  p-range i H = (C .own i H .p-low, C .own i H .p-high)
-
-  -- "m_31,32,4,5,6[i] ↔ rcs[i]"
-  pub rcs-range : (i : ℕ) → In N i → σ .node i .rcs ≡ asking (σ .node i .at)
-  rcs-range i H = bit-same _ _ (C .own i H .rcs-is)
-
-  -- "(m_31,32[i] ∧ p[i] > j) + m_4[i] ≥ |chq[i, j]| + rd[j, i] + |chp[j, i]|"
-  pub message-chain : (i j : ℕ) → In N i → In N j
-      → weight σ i j ≤ bit (sending (σ .node i .at) && ltb j (σ .node i .p)) + bit (is (σ .node i .at) m4)
-  message-chain i j H J = chain C i j H J
-
-  -- "c[i] = Σ_k |chq[i, k]| + rd[k, i] + |chp[k, i]| + m_31,32[i] · (N − p[i] + (p[i] > i))"
-  pub c-range : (i : ℕ) → In N i → σ .node i .c ≡ sum N (λ k. weight σ i k) + unsent N σ i
-  c-range i H = rw (past-is (σ .node i .p) i) (C .own i H .c-is)
-
-  -- "|chq[i, j]| > 0 → head(chq[i, j]) = osn[i]"
-  pub request-in-channel : (i j : ℕ) → In N i → In N j → 0 < length (σ .chq i j) → first (σ .chq i j) ≡ σ .node i .osn
-  request-in-channel i j H J h = elim (ℕ-discrete i j) [
+module _ {N : ℕ} {σ : State} (C : Counting N σ) (O : Order N σ) where
+  value : (i j : ℕ) → In N i → In N j → 0 < length (σ .chq i j) → first (σ .chq i j) ≡ σ .node i .osn
+  value i j H J h = elim (ℕ-discrete i j) [
     | yes e ↦ let z : weight σ i j ≡ 0 = rw (← e) (C .self i H) in absurd (omega arith)
     | no d ↦ O i j H J d .value h
   ]
 
-  -- "request_received(i, j) → osn[i] ≤ hsn[j]"
-  pub hsn-highest : (i j : ℕ) → In N i → In N j → request-received σ i j ≡ true → σ .node i .osn ≤ σ .node j .hsn
-  hsn-highest i j H J r =
+  seen : (i j : ℕ) → In N i → In N j → request-received σ i j ≡ true → σ .node i .osn ≤ σ .node j .hsn
+  seen i j H J r =
       let q = received C i j H J r in
       O i j H J (q .0) .seen (q .1) (q .2)
 
-  -- "granted(i, j) → ¬rcs[j] ∨ (osn[i], i) ≺ (osn[j], j)"
-  pub permitted : (i j : ℕ) → In N i → In N j → granted σ i j ≡ true
-      → (σ .node j .rcs ≡ false) ⊎ Lower (σ .node i .osn) i (σ .node j .osn) j
-  permitted i j H J g = go (σ .node j .rcs) refl
+  allowed : (i j : ℕ) → In N i → In N j → granted σ i j ≡ true → (σ .node j .rcs ≡ false) ⊎ Lower (σ .node i .osn) i (σ .node j .osn) j
+  allowed i j H J g = go (σ .node j .rcs) refl
     where
       go : (b : Bool) → σ .node j .rcs ≡ b → (b ≡ false) ⊎ Lower (σ .node i .osn) i (σ .node j .osn) j
       go false e = inl refl
@@ -149,32 +122,47 @@ module _ {N : ℕ} {ls : List Label} {σ : State} (R : Run N initial ls σ) wher
           inr (lower _ i _ j (q .0) (O i j H J (q .0) .allowed (q .1) (q .2) z (ap bit e)))
 
   -- as excl, with m6 too: rcs falls only on the way out of it
-  pub excl-or-leaving : (i j : ℕ) → In N i → In N j → entered (σ .node i .at) ≡ true → entered (σ .node j .at) ≡ true → i ≡ j
-  excl-or-leaving i j H J e f = elim (ℕ-discrete i j) [
+  alone-inside : (i j : ℕ) → In N i → In N j → entered (σ .node i .at) ≡ true → entered (σ .node j .at) ≡ true → i ≡ j
+  alone-inside i j H J e f = elim (ℕ-discrete i j) [
     | yes z ↦ z
     | no d ↦ absurd (omega (arith, first-in C i j H J O d e f, first-in C j i J H O (λ z. d (sym z)) f e))
   ]
 
-  -- "m_5[i] ∧ m_5[j] → i = j"
-  pub excl : (i j : ℕ) → In N i → In N j → σ .node i .at ≡ m5 → σ .node j .at ≡ m5 → i ≡ j
-  excl i j H J e f = excl-or-leaving i j H J (ap entered e) (ap entered f)
-
   marked-apart : (i j : ℕ) → In N i → σ .node i .rd j ≡ true → j ≢ i
   marked-apart i j H m e = omega (arith, C .self i H, ap bit m, ap (λ (k : ℕ). bit (σ .node i .rd k)) e)
 
-  -- "rd[i, j] → (osn[i], i) ≺ (osn[j], j)"
-  pub rd-osn : (i j : ℕ) → In N i → In N j → σ .node i .rd j ≡ true → Lower (σ .node i .osn) i (σ .node j .osn) j
-  rd-osn i j H J m =
+  marked-later : (i j : ℕ) → In N i → In N j → σ .node i .rd j ≡ true → Lower (σ .node i .osn) i (σ .node j .osn) j
+  marked-later i j H J m =
       let d = marked-apart i j H m in
       lower _ i _ j (λ z. d (sym z)) (O j i J H d .behind (ap bit m))
 
-  -- "m_1,2[i] ∨ (m_71,72[i] ∧ p[i] > j) → ¬rd[i, j]"
-  pub not-rd-range : (i j : ℕ) → In N i → In N j
+  unmarked : (i j : ℕ) → In N i → In N j
       → ((is (σ .node i .at) m1 || is (σ .node i .at) m2) || ((is (σ .node i .at) m71 || is (σ .node i .at) m72) && ltb j (σ .node i .p))) ≡ true
       → σ .node i .rd j ≡ false
-  not-rd-range i j H J e = go (σ .node i .rd j) refl
+  unmarked i j H J e = go (σ .node i .rd j) refl
     where
       go : (b : Bool) → σ .node i .rd j ≡ b → b ≡ false
       go false m = refl
       go true m =
           absurd (omega (arith, O j i J H (marked-apart i j H m) .kept (ap bit m), given-all N (σ .node i .at) (σ .node i .p) j (J .high) e))
+
+  all-assertions : Assertions N σ
+  all-assertions = record {
+    p-range = λ i H. (C .own i H .p-low, C .own i H .p-high);
+    rcs-range = λ i H. bit-same _ _ (C .own i H .rcs-is);
+    message-chain = chain C;
+    c-range = λ i H. rw (past-is (σ .node i .p) i) (C .own i H .c-is);
+    request-in-channel = value;
+    hsn-highest = seen;
+    permitted = allowed;
+    excl = λ i j H J e f. alone-inside i j H J (ap entered e) (ap entered f);
+    rd-osn = marked-later;
+    not-rd-range = unmarked;
+  }
+
+module _ {N : ℕ} {ls : List Label} {σ : State} (R : Run N initial ls σ) where
+  pub excl-or-leaving : (i j : ℕ) → In N i → In N j → entered (σ .node i .at) ≡ true → entered (σ .node j .at) ≡ true → i ≡ j
+  excl-or-leaving = alone-inside (counting R) (order R)
+
+  pub asserted : Assertions N σ
+  asserted = all-assertions (counting R) (order R)

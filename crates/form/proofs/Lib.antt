@@ -1,4 +1,2 @@
--- Laws of the form of a record, beside the functions' own proofs.
+-- Laws of the scan over the cells of a record.
 pub mod Scans
-pub mod Heads
-pub mod Wires

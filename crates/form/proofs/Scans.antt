@@ -3,7 +3,7 @@
 --     Scan             a test f of a list that puts the test g to each element, with its number
 --     scan-on, scan-end    such a test in a loop, at an element whose own test is known, and past the last one
 --     scan-at, scan-set, scan-all      what it says of one element; with another element put there; and of a list of one element over and over
-use mathlib.Core.Path.{_≡_, sym, ap, _∙_}
+use mathlib.Core.Path.{_≡_, refl, sym, ap, _∙_}
 use Prim.Native.Nat.{ℕ, zero, suc, _+_, _≤_, _<_}
 use native.Mathlib.Omega.{arith}
 use native.Mathlib.Nat.{add-zero}
@@ -12,6 +12,7 @@ use mathlib.Core.Bool.{Bool, true, _&&_, and-eq-true-iff}
 use mathlib.Core.List.{List, [], _∷_}
 use lib.ListN.{length, getD, set, replicate, drop, drop-of-length-le}
 use lib.Seq.{drop-cons}
+use Rattle.form.specs.Form.{cellOk, cellsOk}
 
 module _ {X R : Type 0} (def : ℕ → List X → R) (t : List X) (i : ℕ) where
   abbrev pub FromHere : Type 0
@@ -61,3 +62,8 @@ module _ {A : Type 0} {g : ℕ → A → Bool} {f : ℕ → List A → Bool} (sc
   pub scan-all : (m s : ℕ) (x : A) → ((u : ℕ) → g u x ≡ true) → f s (replicate m x) ≡ true
   scan-all zero s x h = scan .none s
   scan-all (suc m) s x h = scan .some s x (replicate m x) ∙ rw (h s, scan-all m (s + 1) x h)
+
+-- the cells of a record are scanned so
+pub cells-scan : (n s : ℕ) → Scan (cellOk n s) (cellsOk n s)
+unfolding cellsOk
+cells-scan n s = record { none = λ _. refl; some = λ _ _ _. refl }

@@ -1,10 +1,13 @@
 -- What a line of the bench's input means, and how a byte is written: 01, "Frames and the bench program".
-use Prim.Native.Nat.{ℕ, _+_, _-_, _*_, _/_, _%_}
+use mathlib.Core.Path.{_≡_}
+use Prim.Native.Nat.{ℕ, _+_, _-_, _*_, _/_, _%_, _<_}
 use mathlib.Core.Bool.{cond}
 use mathlib.Core.List.{List}
 use lib.Dec.{eqb, leb, ltb}
 use lib.ListN.{length, getD}
+use Rattle.station.specs.declared.Step.{Step}
 use Rattle.station.specs.declared.Step.the-variants.{Ask, Send, Enter, Leave, Give, TakeRequest, TakeAnswer}
+use Rattle.station.specs.Stations.{namedBy}
 use Rattle.frames.specs.declared.Byte.{Byte}
 use Rattle.frames.specs.declared.Byte.the-variants as byte
 use Rattle.frames.specs.declared.Frame.{Frame}
@@ -62,3 +65,29 @@ frameAt s at =
     (byteOf (getD s (at + 2) 0) (getD s (at + 3) 0))
     (byteOf (getD s (at + 4) 0) (getD s (at + 5) 0)))
     frame.Bad)
+
+-- ---- a step as a frame
+-- 01, "The seven steps": the code of a step, which is the kind of its frame
+abbrev pub kindOf : Step → ℕ
+kindOf (Ask s) = 0
+kindOf (Send s) = 1
+kindOf (Enter s) = 2
+kindOf (Leave s) = 3
+kindOf (Give s) = 4
+kindOf (TakeRequest s t) = 5
+kindOf (TakeAnswer s t) = 6
+
+-- the peer of a take; "other is 00 for kinds 00 to 04"
+abbrev pub otherOf : Step → ℕ
+otherOf (Ask s) = 0
+otherOf (Send s) = 0
+otherOf (Enter s) = 0
+otherOf (Leave s) = 0
+otherOf (Give s) = 0
+otherOf (TakeRequest s t) = t
+otherOf (TakeAnswer s t) = t
+
+-- what is written is read back: a byte from its two characters, and a step from its kind, its station and its other byte
+pub record ReadsBack : Type 0 where
+  pub byte-back : (value : ℕ) → value < 256 → byteOf (pairOf value .high) (pairOf value .low) ≡ byte.Value value
+  pub step-back : (x : Step) → meaningOf (kindOf x) (namedBy x) (otherOf x) ≡ frame.Move x

@@ -1,5 +1,5 @@
 -- What a run writes for any bytes of input, by the rules of the table: 01, "Frames and the bench program".
-use Prim.Native.Nat.{ℕ, zero, suc, _+_, _-_, _*_, _/_}
+use Prim.Native.Nat.{ℕ, zero, suc, _+_, _-_, _*_, _/_, _≤_}
 use mathlib.Core.Path.{_≡_}
 use mathlib.Core.Bool.{cond}
 use mathlib.Core.List.{List, [], _∷_, _++_}
@@ -49,7 +49,7 @@ abbrev pub badLine : List ℕ
 badLine = lineOf BAD_FRAME 0 0 0
 
 -- ---- a run
--- the frames of the lines that are started, the last one perhaps not ended
+-- how many lines an input of a length starts, the last one perhaps not ended
 unfoldable pub linesIn : ℕ → ℕ
 linesIn len = (len + 6) / 7
 
@@ -79,6 +79,11 @@ runLines s = cond (ltb INPUT_LIMIT (length s)) (lineOf TOO_LONG 0 0 0) (sessionL
 -- the room for a line of nine bytes for each line that is started, and for one at least
 unfoldable pub roomFor : ℕ → ℕ
 roomFor len = cond (ltb INPUT_LIMIT len) 9 (cond (eqb len 0) 9 (linesIn len * 9))
+
+-- what `room_for` promises: that room; and no input needs more than the most that the library names
+pub record RoomFor (len most r : ℕ) : Type 0 where
+  pub room : r ≡ roomFor len
+  pub enough : r ≤ most
 
 -- what is written into an output of a length: nothing where it has not that room
 unfoldable pub written : List ℕ → ℕ → List ℕ

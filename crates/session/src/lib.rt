@@ -8,7 +8,7 @@ ghost use mathlib.Core.Path.{_≡_};
 ghost use Prim.Native.Nat.{_+_, _*_, _≤_};
 ghost use lib.ListN.{length};
 ghost use lib.Seq.{sets};
-ghost use Rattle.session.specs.Session.{shownOf, pairLine, lineOf, linesIn, roomFor, LinesWritten, Ran};
+ghost use Rattle.session.specs.Session.{shownOf, pairLine, lineOf, linesIn, RoomFor, LinesWritten, Ran};
 
 pub const BAD_FRAME: u8 = 9;
 
@@ -17,10 +17,11 @@ pub const TOO_LONG: u8 = 10;
 // The most bytes of input that a run takes.
 pub const INPUT_LIMIT: usize = 65536;
 
-// The bytes of a line of output, and the most of them that a run writes.
+// The bytes of a line of output.
 pub const LINE_BYTES: usize = 9;
 
-pub const OUTPUT_MOST: usize = 84267;
+// The most bytes of output that any run needs: a line for each that the longest input starts.
+pub const OUTPUT_MOST: usize = (INPUT_LIMIT + 6) / frames::FRAME_BYTES * LINE_BYTES;
 
 // What a line shows of the named station: zeros where a step names none.
 fn shown(code: u8, value: u8) -> u8
@@ -62,7 +63,7 @@ fn lines_in(len: usize) -> usize
 
 // The bytes of output that a run of so many bytes of input may need.
 pub fn room_for(len: usize) -> usize
-    ensures { λ r. ⌜ r ≡ roomFor len ⌝ }
+    ensures { λ r. do ⌜ RoomFor len (← ⟦OUTPUT_MOST⟧ .entry) r ⌝ }
 {
     if INPUT_LIMIT < len {
         return LINE_BYTES;

@@ -1,5 +1,5 @@
 -- What holds by the outcome of a test; and the tests of a count and of stations, as bounds.
-use Prim.Native.Nat.{ℕ, _≤_}
+use Prim.Native.Nat.{ℕ, _≤_, _<_}
 use native.Mathlib.Omega.{arith}
 use mathlib.Core.Bool.{Bool, true, false, cond, and-eq-true-iff}
 use mathlib.Core.Path.{_≡_, refl, ap, sym, _∙_}
@@ -9,7 +9,7 @@ use borrow.Author.Tests.{leb-true, le-leb, eqb-false, not-true}
 use Rattle.station.specs.declared.Step.{Step}
 use Rattle.station.specs.declared.Step.the-variants.{TakeRequest}
 use Rattle.station.specs.Names.{STATIONS}
-use Rattle.station.specs.Stations.{countOk, isStation, stationsOk}
+use Rattle.station.specs.Stations.{countOk, isStation, stationsOk, indexOf}
 
 pub by-test : {A : Type 0} (P : A → Type 0) (b : Bool) {x y : A} → (b ≡ true → P x) → (b ≡ false → P y) → P (cond b x y)
 by-test P true p q = p refl
@@ -30,6 +30,10 @@ count-ok {n} C = rw (le-leb 2 n (C .0), le-leb n STATIONS (C .1))
 pub station-range : (n s : ℕ) → isStation n s ≡ true → (1 ≤ s) × (s ≤ n)
 unfolding isStation
 station-range n s e = let h = and-eq-true-iff _ _ .0 e in (leb-true 1 s (h .0), leb-true s n (h .1))
+
+pub index-below : (s : ℕ) → indexOf s < STATIONS
+unfolding indexOf
+index-below s = omega arith
 
 -- the two of a take
 pub two-stations : (n s t : ℕ) → stationsOk n (TakeRequest s t) ≡ true → (isStation n s ≡ true) × (isStation n t ≡ true) × (s ≢ t)

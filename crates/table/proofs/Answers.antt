@@ -1,6 +1,7 @@
 -- What `answer` and `after` come to: on a table that is well formed they are the core's, and on any other a refusal.
 use mathlib.Core.Path.{_≡_, refl, subst, _∙_}
-use Prim.Native.Nat.{ℕ}
+use Prim.Native.Nat.{ℕ, _<_}
+use native.Mathlib.Omega.{arith}
 use mathlib.Core.Bool.{Bool, true, false, cond, and-eq-true-iff}
 use mathlib.Core.List.{List}
 use lib.Dec.{eqb}
@@ -11,8 +12,8 @@ use Rattle.station.specs.declared.Step.{Step}
 use Rattle.station.specs.Names.{STATIONS, ACCEPTED, NOT_WELL_FORMED}
 use Rattle.station.specs.Stations.{countOk}
 use Rattle.station.proofs.Laws.{by-test}
-use Rattle.rows.specs.Rows.{outcome}
-use Rattle.table.specs.Table.{headIn, cellsIn, recordsOk, sized, wellFormed, seat, seatOf, peerSeat, outcomeIn, landed, answer, after}
+use Rattle.table.proofs.Leaves.{outcome-leaves}
+use Rattle.table.specs.Table.{headIn, recordsOk, sized, wellFormed, seat, seatOf, peerSeat, outcomeIn, landed, answer, after, StepsTo, ActsTo}
 use Rattle.table.proofs.Unchanged.{unchanged}
 
 -- what the form says, part by part
@@ -46,21 +47,20 @@ module _ (n : ℕ) (t : List Station) (x : Step) where
   unfolding answer after
   passed form = rw form (refl, by-code (eqb (outcomeIn n t x .code) ACCEPTED) refl)
 
-  pub failed : wellFormed n t ≡ false → (NOT_WELL_FORMED ≡ answer n t x) × (t ≡ after n t x)
+  pub failed : wellFormed n t ≡ false → StepsTo n x t NOT_WELL_FORMED t
   unfolding answer after
-  failed form = rw form (refl, refl)
+  failed form = record { answers = rw form; leaves = rw form }
+
+  pub answer-byte : answer n t x < 256
+  unfolding answer
+  answer-byte = by-test (λ (code : ℕ). code < 256) (wellFormed n t) (λ _. outcome-leaves _ _ _ n x .byte) (λ _. omega arith)
 
   pub after-length : length (after n t x) ≡ length t
   unfolding after
   after-length = by-test (λ (u : List Station). length u ≡ length t) (eqb (answer n t x) ACCEPTED) (λ _. simp length-set) (λ _. refl)
 
-  -- what a walk learns, in the words of the contract
-  abbrev pub Acted : ℕ → List Station → ℕ → ℕ → Type 0
-  Acted code u i j =
-      (code ≡ outcome n x (headIn t i) (cellsIn t i j) (cellsIn t j i) .code) × (u ≡ landed (outcome n x (headIn t i) (cellsIn t i j) (cellsIn t j i)) t i j)
-
-  pub acted : (code : ℕ) (u : List Station) (i j : ℕ) → wellFormed n t ≡ true → i ≡ seat x → j ≡ seatOf x (headIn t i .next) → Acted code u i j
-      → (code ≡ answer n t x) × (u ≡ after n t x)
+  -- the step between the right two stations is the step
+  pub acted : (code : ℕ) (u : List Station) (i j : ℕ) → wellFormed n t ≡ true → i ≡ seat x → j ≡ seatOf x (headIn t i .next) → ActsTo n x i j t code u → StepsTo n x t code u
   acted code u i j form ei ej a =
-      let there : Acted code u (seat x) (peerSeat t x) = subst (λ (k : ℕ). Acted code u k (seatOf x (headIn t k .next))) ei (subst (Acted code u i) ej a) in
-      (there .0 ∙ passed form .0, there .1 ∙ passed form .1)
+      let there : ActsTo n x (seat x) (peerSeat t x) t code u = subst (λ (k : ℕ). ActsTo n x k (seatOf x (headIn t k .next)) t code u) ei (subst (λ (k : ℕ). ActsTo n x i k t code u) ej a) in
+      record { answers = there .answers ∙ passed form .0; leaves = there .leaves ∙ passed form .1 }

@@ -16,8 +16,8 @@ use Rattle.station.proofs.Laws.{by-test, count-range, station-range, two-statio
 use Rattle.rows.specs.declared.Outcome.{Outcome}
 use Rattle.rows.specs.Rows.{outcomeOf, answersNow, onward, raised, askRule, sendRule, enterRule, leaveRule, giveRule, takeRequestRule, takeAnswerRule, stepRule, outcome}
 use Rattle.form.specs.Form.{headOk, newHead, inUse, cellOk}
-use Rattle.form.proofs.Heads.{Stands, stands, formed}
-use Rattle.form.proofs.Wires.{in-use, in-use-back, used-ok, marked-in-use}
+use Rattle.table.proofs.Heads.{Stands, stands, formed}
+use Rattle.table.proofs.Wires.{in-use, in-use-back, used-ok, marked-in-use}
 use Rattle.table.specs.Table.{seat, seatOf}
 
 -- the head of a record, that of station s, in form: one in use up to n, a new one above

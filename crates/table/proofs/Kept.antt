@@ -12,9 +12,9 @@ use Rattle.station.specs.Names.{STATIONS}
 use Rattle.station.specs.Stations.{countOk, indexOf}
 use Rattle.station.proofs.Laws.{count-range}
 use Rattle.form.specs.Form.{newCells, newStation, newHead, headOk, recordOk}
-use Rattle.form.proofs.Scans.{scan-all}
-use Rattle.form.proofs.Heads.{formed}
-use Rattle.form.proofs.Wires.{cells-scan, new-ok}
+use Rattle.form.proofs.Scans.{scan-all, cells-scan}
+use Rattle.table.proofs.Heads.{formed}
+use Rattle.table.proofs.Wires.{new-ok}
 use Rattle.table.specs.Table.{headIn, cellsIn, opened, recordsOk, sized, wellFormed, seat, peerSeat, outcomeIn, after}
 use Rattle.table.specs.Kept.{FormKept}
 use Rattle.table.proofs.Answers.{formed-size, formed-length, formed-records, done, passed, after-length}

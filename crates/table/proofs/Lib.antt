@@ -2,8 +2,11 @@
 pub mod Places
 pub mod InTable
 pub mod Look
+pub mod Leaves
 pub mod Unchanged
 pub mod Answers
+pub mod Heads
+pub mod Wires
 pub mod Fits
 pub mod Records
 pub mod Kept

@@ -11,8 +11,8 @@ use Rattle.station.specs.declared.Cells.{Cells}
 use Rattle.station.specs.declared.Station.{Station}
 use Rattle.rows.specs.declared.Outcome.{Outcome}
 use Rattle.form.specs.Form.{newCells, cellOk, cellsOk, recordOk}
-use Rattle.form.proofs.Scans.{Scan, scan-at, scan-set}
-use Rattle.form.proofs.Wires.{cells-scan, new-ok}
+use Rattle.form.proofs.Scans.{Scan, scan-at, scan-set, cells-scan}
+use Rattle.table.proofs.Wires.{new-ok}
 use Rattle.table.specs.Table.{noStation, headIn, cellsIn, putHead, putCells, recordsOk, landed}
 use Rattle.table.proofs.Fits.{frontOk, Fits}
 

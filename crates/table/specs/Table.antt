@@ -1,5 +1,6 @@
 -- The rules of the table: a code and a table for any table, any count and any step. The contracts, the run and the demands all speak of these.
 use Prim.Native.Nat.{ℕ, _+_, _-_}
+use mathlib.Core.Path.{_≡_}
 use mathlib.Core.Bool.{Bool, true, cond, _&&_}
 use mathlib.Core.List.{List, [], _∷_}
 use lib.Dec.{eqb}
@@ -60,6 +61,11 @@ openAnswer n t = openCode (length t) n
 unfoldable pub openAfter : ℕ → List Station → List Station
 openAfter n t = cond (eqb (openAnswer n t) ACCEPTED) opened t
 
+-- what `open` promises: its code, and every record that was lent to it as it is afterwards
+pub record OpensTo (n : ℕ) (t : List Station) (code : ℕ) (now : List Station) : Type 0 where
+  pub answers : code ≡ openAnswer n t
+  pub leaves : now ≡ openAfter n t
+
 -- ---- the form of a table
 -- "for each station up to N", and for the records above: each record, that of station s first, has its form
 unfoldable pub recordsOk : ℕ → ℕ → List Station → Bool
@@ -87,9 +93,13 @@ seatOf x next = indexOf (peerOf x next)
 abbrev pub peerSeat : List Station → Step → ℕ
 peerSeat t x = seatOf x (headIn t (seat x) .next)
 
--- what the core makes of the head and of the two cells between the station and its peer
+-- what the core makes of the head at i and of the two cells between i and j
+abbrev pub outcomeAt : ℕ → List Station → Step → ℕ → ℕ → Outcome
+outcomeAt n t x i j = outcome n x (headIn t i) (cellsIn t i j) (cellsIn t j i)
+
+-- the same at the station that the step names and its peer
 abbrev pub outcomeIn : ℕ → List Station → Step → Outcome
-outcomeIn n t x = outcome n x (headIn t (seat x)) (cellsIn t (seat x) (peerSeat t x)) (cellsIn t (peerSeat t x) (seat x))
+outcomeIn n t x = outcomeAt n t x (seat x) (peerSeat t x)
 
 -- the table with an outcome of the stations at i and j in it
 abbrev pub landed : Outcome → List Station → ℕ → ℕ → List Station
@@ -102,6 +112,16 @@ answer n t x = cond (wellFormed n t) (outcomeIn n t x .code) NOT_WELL_FORMED
 -- 01, "Codes": "Every refusal leaves the whole table .. unchanged. An accepted step changes only what its row names"
 unfoldable pub after : ℕ → List Station → Step → List Station
 after n t x = cond (eqb (answer n t x) ACCEPTED) (landed (outcomeIn n t x) t (seat x) (peerSeat t x)) t
+
+-- what `step` promises: its code, and every record that was lent to it as it is afterwards
+pub record StepsTo (n : ℕ) (x : Step) (t : List Station) (code : ℕ) (now : List Station) : Type 0 where
+  pub answers : code ≡ answer n t x
+  pub leaves : now ≡ after n t x
+
+-- the same of the step between the stations at i and j, once the table has been checked
+pub record ActsTo (n : ℕ) (x : Step) (i j : ℕ) (t : List Station) (code : ℕ) (now : List Station) : Type 0 where
+  pub answers : code ≡ outcomeAt n t x i j .code
+  pub leaves : now ≡ landed (outcomeAt n t x i j) t i j
 
 -- ---- who holds the turn
 -- 01, "Frames": "the station in Holding, 00 for none"; of several, which no reached table has, the lowest

@@ -10,8 +10,7 @@ use station::Step;
 ghost use mathlib.Core.Path.{_≡_};
 ghost use Prim.Native.Nat.{_<_};
 ghost use lib.ListN.{length};
-ghost use Rattle.rows.specs.Rows.{outcome};
-ghost use Rattle.table.specs.Table.{headIn, cellsIn, headOf, landed, openCode, openAnswer, openAfter, wellFormed, sized, seatOf, answer, after, holder};
+ghost use Rattle.table.specs.Table.{headOf, openCode, OpensTo, wellFormed, sized, seatOf, ActsTo, StepsTo, holder};
 
 // What opening answers, by the length of the table and the count.
 fn opening(len: usize, n: usize) -> u8
@@ -28,7 +27,7 @@ fn opening(len: usize, n: usize) -> u8
 
 // Opens a network of n stations over whatever the table held.
 pub fn open(table: &mut [Station], n: usize) -> u8
-    ensures { λ r. ⌜ (r ≡ openAnswer n (now (table .entry))) × (now (table .exit) ≡ openAfter n (now (table .entry))) ⌝ }
+    ensures { λ r. ⌜ OpensTo n (now (table .entry)) r (now (table .exit)) ⌝ }
 {
     let code = opening(table.len(), n);
     if code == ACCEPTED {
@@ -73,7 +72,7 @@ pub fn well_formed(table: &[Station], n: usize) -> bool
 
 // The index of the peer whose cells a step may touch.
 fn seat_of(step: Step, next: u8) -> usize
-    ensures { λ r. ⌜ (r ≡ seatOf step next) × (r < 32) ⌝ }
+    ensures { λ r. ⌜ r ≡ seatOf step next ⌝ }
 {
     station::index_of(station::peer_of(step, next))
 }
@@ -81,8 +80,7 @@ fn seat_of(step: Step, next: u8) -> usize
 // The step between the stations at the indices i and j: the head and the two cells are read, and stored as they come out.
 fn act_on(table: &mut [Station], n: usize, step: Step, i: usize, j: usize) -> u8
     requires { ⌜ ((i < length (now table)) × (j < length (now table))) × ((i < 32) × (j < 32)) ⌝ }
-    ensures { λ r. ⌜ (r ≡ outcome n step (headIn (now (table .entry)) i) (cellsIn (now (table .entry)) i j) (cellsIn (now (table .entry)) j i) .code)
-        × (now (table .exit) ≡ landed (outcome n step (headIn (now (table .entry)) i) (cellsIn (now (table .entry)) i j) (cellsIn (now (table .entry)) j i)) (now (table .entry)) i j) ⌝ }
+    ensures { λ r. ⌜ ActsTo n step i j (now (table .entry)) r (now (table .exit)) ⌝ }
 {
     let head = table[i].head;
     let mine = table[i].cells[j];
@@ -96,7 +94,7 @@ fn act_on(table: &mut [Station], n: usize, step: Step, i: usize, j: usize) -> u8
 
 // One step of the network: the check, then the step.
 pub fn step(table: &mut [Station], n: usize, step: Step) -> u8
-    ensures { λ r. ⌜ (r ≡ answer n (now (table .entry)) step) × (now (table .exit) ≡ after n (now (table .entry)) step) ⌝ }
+    ensures { λ r. ⌜ StepsTo n step (now (table .entry)) r (now (table .exit)) ⌝ }
 {
     if well_formed(table, n) {
         let i = station::index_of(station::named_by(step));

@@ -8,8 +8,7 @@ use lib.ListN.{length, length-map}
 use Rattle.station.specs.declared.Cells.{Cells}
 use Rattle.station.proofs.Cells.{the-field}
 use Rattle.form.specs.Form.{newCells, cellsOk}
-use Rattle.form.proofs.Scans.{FromHere, scan-on, scan-end}
-use Rattle.form.proofs.Wires.{cells-scan}
+use Rattle.form.proofs.Scans.{FromHere, scan-on, scan-end, cells-scan}
 use Rattle.form.proofs.cells_ok.Statement.{statement}
 use Rattle.form.proofs.cells_ok.Tie as tie
 

@@ -46,7 +46,7 @@ use Rattle.form.proofs.new_station as new-station
 use Rattle.form.proofs.new_station.Symbol as new-station-def
 use Rattle.form.proofs.new_station.Symbol.{name as #form·new-station}
 use Rattle.form.proofs.new_station.Met as new-station-thm
-use Rattle.table.specs.Table.{opened, openAnswer, openAfter}
+use Rattle.table.specs.Table.{opened, openAnswer, openAfter, OpensTo}
 use Rattle.walks.proofs.Calls.{Promise, calls-plain}
 use Rattle.walks.proofs.Locals.{local, sets}
 use Rattle.table.proofs.Look.{recordVal, recordVals, record-typed}
@@ -74,11 +74,11 @@ still-new : (n : ℕ) → openAfter n opened ≡ opened
 unfolding openAfter
 still-new n = by-test (λ (t : List Station). t ≡ opened) (eqb (openAnswer n opened) ACCEPTED) (λ _. refl) (λ _. refl)
 
-answered : (n : ℕ) (e : Station) (code : ℕ) (t : List Station) → e ≡ newStation → (code ≡ openAnswer n (replicate STATIONS e)) × (t ≡ openAfter n (replicate STATIONS e)) → record { code = code; table = t } ≡ openedFor n
+answered : (n : ℕ) (e : Station) (code : ℕ) (t : List Station) → e ≡ newStation → OpensTo n (replicate STATIONS e) code t → record { code = code; table = t } ≡ openedFor n
 unfolding openedFor
 answered n e code t new did =
-    let codes : code ≡ openAnswer n opened = did .0 ∙ ap (λ (s : Station). openAnswer n (replicate STATIONS s)) new in
-    let tables : t ≡ opened = did .1 ∙ ap (λ (s : Station). openAfter n (replicate STATIONS s)) new ∙ still-new n in
+    let codes : code ≡ openAnswer n opened = did .answers ∙ ap (λ (s : Station). openAnswer n (replicate STATIONS s)) new in
+    let tables : t ≡ opened = did .leaves ∙ ap (λ (s : Station). openAfter n (replicate STATIONS s)) new ∙ still-new n in
     λ i. record { code = codes i; table = tables i }
 
 -- what is known of the functions that it calls
@@ -124,7 +124,7 @@ module _ {M : Type 1} (𝓤 : URA M) (H : Heap 𝓤) (A : Atoms 𝓤) (W : Given
         calls-lending ! (fmOf 𝓤 H (W .laws) 𝓣) (mutSliceOf (0 ∷ []) tt (plain (λ _. Sn.the-row))) (plain (λ _. usize) ∷ []) u8 (yes, tt) (open′.clauses 𝓤 H A mem run) (known .opens)
         (partAt Table fullShare (replicate STATIONS e) l₂ 0) (sliceVal (l₂, 0) STATIONS) (List Station) (λ t. partAt Table fullShare t l₂ 0) (as-mut 𝓤 H A W Sn.the-row tt STATIONS table-room (replicate STATIONS e) l₂)
         (λ _. (n, tt)) (λ _ _. tt) (λ _. (vint w64 n ∷ [], tt)) (λ _. (uint-makes 𝓤 H A W w64, tt)) (λ _. ((refl, n<), tt)) (λ _ _. id⊢ 𝓤 (emp 𝓤)) (vint w8) (uint-tells w8)
-        (λ code t. (code ≡ openAnswer n (replicate STATIONS e)) × (t ≡ openAfter n (replicate STATIONS e))) (λ _ _ _ _. id⊢ 𝓤 _)
+        (λ code t. OpensTo n (replicate STATIONS e) code t) (λ _ _ _ _. id⊢ 𝓤 _)
         (λ _ _. and-then ! (local ! 4 refl) (and-then ! (local ! 13 refl) (no-more !))) (λ code t did code-is.
         land ! (from ! (stop !)) (init ! 9 refl (tt, record { fits = code-is .1 })) $
         stands ! Sn.the-row STATIONS t l₂ tableVal table-tells (λ is.

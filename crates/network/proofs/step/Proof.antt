@@ -49,7 +49,7 @@ use Rattle.station.proofs.named_by as named-by
 use Rattle.station.proofs.named_by.Symbol as named-by-def
 use Rattle.station.proofs.named_by.Symbol.{name as #station·named-by}
 use Rattle.station.proofs.named_by.Met as named-by-thm
-use Rattle.table.specs.Table.{answer, after, headOf, holder}
+use Rattle.table.specs.Table.{after, StepsTo, headOf, holder}
 use Rattle.walks.proofs.Calls.{Promise, calls-plain}
 use Rattle.walks.proofs.Locals.{local, sets}
 use Rattle.table.proofs.InTable.{headVals, stepVals, head-typed}
@@ -81,12 +81,12 @@ abbrev gone : Stays (f.ended .signature .params) (f.ended .kept)
 gone = (stay-dropped (ArrayOf (plain (λ _. Sn.the-row)) (λ _. tt) STATIONS) yes, (stay-dropped (plain (λ _. usize)) yes, (stay-dropped (plain (λ _. St.the-row)) yes, tt)))
 
 -- the answer, from what each call said
-stepped : (t : List Station) (n : ℕ) (x : Step) (r : Stepped) → (r .code ≡ answer n t x) × (r .table ≡ after n t x) → (s : ℕ) → s ≡ namedBy x → r .head ≡ headOf (r .table) s → r .holder ≡ holder (r .table) → r ≡ steppedBy t n x
+stepped : (t : List Station) (n : ℕ) (x : Step) (r : Stepped) → StepsTo n x t (r .code) (r .table) → (s : ℕ) → s ≡ namedBy x → r .head ≡ headOf (r .table) s → r .holder ≡ holder (r .table) → r ≡ steppedBy t n x
 unfolding steppedBy
 stepped t n x r did s names shows held =
-    let heads : r .head ≡ headOf (after n t x) (namedBy x) = shows ∙ ap (λ (u : List Station). headOf u s) (did .1) ∙ ap (headOf (after n t x)) names in
-    let holders : r .holder ≡ holder (after n t x) = held ∙ ap holder (did .1) in
-    λ i. record { code = did .0 i; head = heads i; holder = holders i; table = did .1 i }
+    let heads : r .head ≡ headOf (after n t x) (namedBy x) = shows ∙ ap (λ (u : List Station). headOf u s) (did .leaves) ∙ ap (headOf (after n t x)) names in
+    let holders : r .holder ≡ holder (after n t x) = held ∙ ap holder (did .leaves) in
+    λ i. record { code = did .answers i; head = heads i; holder = holders i; table = did .leaves i }
 
 -- what is known of the functions that it calls
 module _ {M : Type 1} (𝓤 : URA M) (H : Heap 𝓤) (A : Atoms 𝓤) (mem : Memory → SProp 𝓤) (run : Routine → Fun 𝓤) where
@@ -141,7 +141,7 @@ module _ {M : Type 1} (𝓤 : URA M) (H : Heap 𝓤) (A : Atoms 𝓤) (W : Given
         calls-lending ! fm (mutSliceOf (0 ∷ []) tt (plain (λ _. Sn.the-row))) (plain (λ _. usize) ∷ plain (λ _. St.the-row) ∷ []) u8 (yes, (yes, tt)) (step.clauses 𝓤 H A mem run) (known .steps)
         (partAt Table fullShare t l₄ 0) (sliceVal (l₄, 0) STATIONS) (List Station) (λ u. partAt Table fullShare u l₄ 0) (as-mut 𝓤 H A W Sn.the-row tt STATIONS table-room t l₄)
         (λ _. (n, (x, tt))) (λ _ _. tt) (λ _. (vint w64 n ∷ [], (stepVals x, tt))) (λ _. (uint-makes 𝓤 H A W w64, (LE.makes St.the-type St′.the-plain 𝓤 H A, tt))) (λ _. ((refl, n<), (x-is, tt))) (λ _ _. id⊢ 𝓤 (emp 𝓤)) (vint w8) (uint-tells w8)
-        (λ code u. (code ≡ answer n t x) × (u ≡ after n t x)) (λ _ _ _ _. id⊢ 𝓤 _)
+        (λ code u. StepsTo n x t code u) (λ _ _ _ _. id⊢ 𝓤 _)
         (λ _ _. and-then ! (local ! 14 refl) (and-then ! (local ! 27 refl) (and-then ! (local ! 25 refl) (no-more !)))) (λ code u did code-is.
         land ! (from ! (stop !)) (init ! 21 refl (tt, record { fits = code-is .1 })) $
         -- head = head_of(&lent, named_by(step))

@@ -10,13 +10,13 @@ room-for-requires : tie.Need-room-for-requires
 room-for-requires c κs = search needs
 
 returns : tie.Need-returns
-returns c = no-room _ _ (rw (c .before .room-for .ensures) at (c .if1 .taken))
+returns c = no-room _ _ (rw (c .before .room-for .ensures .room) at (c .if1 .taken))
 
 put-line-requires : tie.Need-put-line-requires
 put-line-requires c κs =
     let at-if1 = c .before .before in
     let at-room-for = at-if1 .before in
-    omega (arith, room-line _ _ (rw (at-room-for .room-for .ensures) at (at-if1 .if1 .left)))
+    omega (arith, room-line _ _ (rw (at-room-for .room-for .ensures .room) at (at-if1 .if1 .left)))
 
 same-length : tie.Need-same-length
 same-length c = search needs
@@ -26,7 +26,7 @@ returns-2 c =
     let at-if2 = c .before .before .before .before in
     let at-if1 = at-if2 .before in
     let at-room-for = at-if1 .before in
-    one-line _ _ (rw (at-room-for .room-for .ensures) at (at-if1 .if1 .left)) _ _ (too-long _ (at-if2 .if2 .taken)) (c .before .before .put-line .ensures)
+    one-line _ _ (rw (at-room-for .room-for .ensures .room) at (at-if1 .if1 .left)) _ _ (too-long _ (at-if2 .if2 .taken)) (c .before .before .put-line .ensures)
 
 frame-at-requires : tie.Need-frame-at-requires
 frame-at-requires c κs = search needs
@@ -38,7 +38,7 @@ put-line-requires-2 : tie.Need-put-line-requires-2
 put-line-requires-2 c κs =
     let at-if1 = c .before .before .before .before in
     let at-room-for = at-if1 .before in
-    omega (arith, room-line _ _ (rw (at-room-for .room-for .ensures) at (at-if1 .if1 .left)))
+    omega (arith, room-line _ _ (rw (at-room-for .room-for .ensures .room) at (at-if1 .if1 .left)))
 
 same-length-2 : tie.Need-same-length-2
 same-length-2 c = search needs
@@ -50,7 +50,7 @@ returns-3 c =
     let at-if2 = at-frame-at .before in
     let at-if1 = at-if2 .before in
     let at-room-for = at-if1 .before in
-    one-line _ _ (rw (at-room-for .room-for .ensures) at (at-if1 .if1 .left)) _ _
+    one-line _ _ (rw (at-room-for .room-for .ensures .room) at (at-if1 .if1 .left)) _ _
     (not-opened _ (at-if2 .if2 .left) (rw (at-frame-at .frame-at .ensures) at (at-match .match .keys2)))
     (c .before .before .put-line2 .ensures)
 
@@ -61,7 +61,7 @@ put-line-requires-3 : tie.Need-put-line-requires-3
 put-line-requires-3 c κs =
     let at-if1 = c .before .before .before .before .before .before .before in
     let at-room-for = at-if1 .before in
-    omega (arith, room-line _ _ (rw (at-room-for .room-for .ensures) at (at-if1 .if1 .left)))
+    omega (arith, room-line _ _ (rw (at-room-for .room-for .ensures .room) at (at-if1 .if1 .left)))
 
 same-length-3 : tie.Need-same-length-3
 same-length-3 c = search needs
@@ -75,7 +75,7 @@ returns-4 c =
     let at-if2 = at-frame-at .before in
     let at-if1 = at-if2 .before in
     let at-room-for = at-if1 .before in
-    one-line _ _ (rw (at-room-for .room-for .ensures) at (at-if1 .if1 .left)) _ _
+    one-line _ _ (rw (at-room-for .room-for .ensures .room) at (at-if1 .if1 .left)) _ _
     (refused _ _ _ (at-if2 .if2 .left) (sym (at-frame-at .frame-at .ensures) ∙ at-n .n .given .1) (at-open .open .ensures) (c .if3 .taken))
     (at-put-line3 .put-line3 .ensures)
 
@@ -88,7 +88,7 @@ put-steps-requires c κs =
     let at-if1 = at-if2 .before in
     let at-room-for = at-if1 .before in
     let some = opening-some _ _ (sym (at-frame-at .frame-at .ensures) ∙ at-n .n .given .1) in
-    let room = room-lines _ _ some (at-if2 .if2 .left) (rw (at-room-for .room-for .ensures) at (at-if1 .if1 .left)) in
+    let room = room-lines _ _ some (at-if2 .if2 .left) (rw (at-room-for .room-for .ensures .room) at (at-if1 .if1 .left)) in
     (some, at-if2 .if2 .left, omega (arith, at-put-line3 .put-line3 .kept))
 
 same-length-4 : tie.Need-same-length-4
@@ -104,7 +104,7 @@ returns-5 c =
     let at-if2 = at-frame-at .before in
     let at-if1 = at-if2 .before in
     let at-room-for = at-if1 .before in
-    more-lines _ _ (rw (at-room-for .room-for .ensures) at (at-if1 .if1 .left)) _ _ _ _ _ _
+    more-lines _ _ (rw (at-room-for .room-for .ensures .room) at (at-if1 .if1 .left)) _ _ _ _ _ _
     (accepted _ _ _ (at-if2 .if2 .left) (sym (at-frame-at .frame-at .ensures) ∙ at-n .n .given .1) (at-open .open .ensures) (at-if3 .if3 .left))
     (at-put-line3 .put-line3 .ensures)
     (omega (arith, c .before .before .put-steps .kept))

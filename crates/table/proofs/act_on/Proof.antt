@@ -40,7 +40,6 @@ use denote.Exit.{yes}
 use Rattle.station.specs.declared.Station.{Station}
 use Rattle.rows.specs.declared.Outcome.{Outcome}
 use Rattle.station.specs.declared.Step.{Step}
-use Rattle.rows.specs.Rows.{outcome}
 use Rattle.station.proofs.Head as Hd
 use Rattle.station.proofs.Head.Laws as Hd′
 use Rattle.station.proofs.Cells as Ce
@@ -54,7 +53,7 @@ use Rattle.rows.proofs.act as act
 use Rattle.rows.proofs.act.Symbol as act-def
 use Rattle.rows.proofs.act.Symbol.{name as #rows·act}
 use Rattle.rows.proofs.act.Met as act-thm
-use Rattle.table.specs.Table.{noStation, headIn, cellsIn, putHead, putCells, landed}
+use Rattle.table.specs.Table.{noStation, headIn, cellsIn, putHead, putCells, outcomeAt, landed}
 use Rattle.table.proofs.Places.{recordBytes, cellBytes, record-fits, cell-fits}
 use Rattle.table.proofs.InTable.{headVals, cellsVals, stepVals, head-typed, cells-typed, head-out, head-back, head-put, cells-out, cells-back, cells-put}
 use Rattle.walks.proofs.Locals.{local, field-of, times, offset-to, sets, changes}
@@ -86,7 +85,7 @@ module _ {M : Type 1} (𝓤 : URA M) (H : Heap 𝓤) (A : Atoms 𝓤) (W : Given
   flat = sliceVal (b, o) (length t) ∷ vint w64 n ∷ LE.val St.the-type St′.the-laws x ∷ vint w64 i ∷ vint w64 j ∷ []
 
   abbrev made : Outcome
-  made = outcome n x (headIn t i) (cellsIn t i j) (cellsIn t j i)
+  made = outcomeAt n t x i j
 
   -- the table after the first store, and after the second
   abbrev t₁ : Outcome → List Station
@@ -122,7 +121,7 @@ module _ {M : Type 1} (𝓤 : URA M) (H : Heap 𝓤) (A : Atoms 𝓤) (W : Given
   exits r gc e =
       qed W (‵ (fobs γ (codedHoleys Sn.the-row .code (heres Sn.the-row (landed r t i j)))) ∷ ‵ (fbor κ (Held Sn.the-row (length (landed r t i j)) b o γ)) ∷ ‵ (flft κ q) ∷ ‵ Owned ∷ []) ∵
       suffices ! _ (ends-at 𝓤 H A f.ended stays (f.clauses 𝓤 H A at-mem run) W (((κ, tt), (q, tt), tt, args, vals), tt) (vint w8 (r .code)) (r .code) (landed r t i j, (tt, (tt, (tt, (tt, tt))))) (length₃ r, (tt, (tt, (tt, (tt, tt)))))) $
-      says ! (ap (λ (p : Outcome). p .code) e, ap (λ (p : Outcome). landed p t i j) e) $
+      says ! (record { answers = ap (λ (p : Outcome). p .code) e; leaves = ap (λ (p : Outcome). landed p t i j) e }) $
       nothing ! $ move ! (3 ∷ 0 ∷ []) $ join ! $
       frame ! $ fjoin ! $ pureI ! (at-slice Sn.the-row (ref (landed r t i j)) (vals .0)) (tt, (tt, tt)) (ap (λ (c : ℕ). sliceVal (b, o) c ∷ []) (sym (length₃ r)), subst (Room Sn.the-row) (sym (length₃ r)) room) $ fjoin ! $ fjoin ! $ frame ! $
       owned ! u8 (Is u8) (uint-makes 𝓤 H A W w8) (r .code) _ (refl, gc) $ done !

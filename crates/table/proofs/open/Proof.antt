@@ -54,7 +54,7 @@ use Rattle.form.proofs.new_station as new-station
 use Rattle.form.proofs.new_station.Symbol as new-station-def
 use Rattle.form.proofs.new_station.Symbol.{name as #form·new-station}
 use Rattle.form.proofs.new_station.Met as new-station-thm
-use Rattle.table.specs.Table.{noStation, opened, openCode, openAnswer, openAfter}
+use Rattle.table.specs.Table.{noStation, opened, openCode, openAnswer, openAfter, OpensTo}
 use Rattle.table.proofs.Places.{recordBytes}
 use Rattle.walks.proofs.Calls.{Promise, calls-plain}
 use Rattle.walks.proofs.Locals.{local, field-of, sets, changes, times, offset-to}
@@ -88,13 +88,10 @@ accepted-long : (m n : ℕ) → eqb (openCode m n) ACCEPTED ≡ true → m ≡ S
 unfolding openCode
 accepted-long m n e = eqb-true m STATIONS (by-tests (countOk n) (eqb m STATIONS) e)
 
--- what is owed at the end: the code, and the table that the code's test picks
-abbrev Owed : ℕ → List Station → ℕ → List Station → Type 0
-Owed n t code now = (code ≡ openAnswer n t) × (now ≡ openAfter n t)
-
-owed : (n : ℕ) (t : List Station) (code : ℕ) (now : List Station) (z : Bool) → code ≡ openAnswer n t → eqb code ACCEPTED ≡ z → now ≡ cond z opened t → Owed n t code now
+-- the table at the end is the one that the code's test picks
+owed : (n : ℕ) (t : List Station) (code : ℕ) (now : List Station) (z : Bool) → code ≡ openAnswer n t → eqb code ACCEPTED ≡ z → now ≡ cond z opened t → OpensTo n t code now
 unfolding openAfter
-owed n t code now z e d is = (e, is ∙ ap (λ (y : Bool). cond y opened t) (sym d ∙ ap (λ (c : ℕ). eqb c ACCEPTED) e))
+owed n t code now z e d is = record { answers = e; leaves = is ∙ ap (λ (y : Bool). cond y opened t) (sym d ∙ ap (λ (c : ℕ). eqb c ACCEPTED) e) }
 
 -- ---- the table with s in its first i records
 record Begun (t : List Station) (s : Station) (i : ℕ) : Type 0 where
@@ -137,7 +134,7 @@ module _ {M : Type 1} (𝓤 : URA M) (H : Heap 𝓤) (A : Atoms 𝓤) (W : Given
   abbrev Borrow : List Station → Fml
   Borrow now = fbor κ (Held Sn.the-row (length now) b o γ)
 
-  exits : (code : ℕ) (now : List Station) → code < 2 ^ 8 → length now ≡ length t → Owed n t code now → ent 𝓤 (⋆ 𝓤 H A (‵ (Seen now) ∷ ‵ (Borrow now) ∷ ‵ (flft κ q) ∷ [])) (Post (vint w8 code))
+  exits : (code : ℕ) (now : List Station) → code < 2 ^ 8 → length now ≡ length t → OpensTo n t code now → ent 𝓤 (⋆ 𝓤 H A (‵ (Seen now) ∷ ‵ (Borrow now) ∷ ‵ (flft κ q) ∷ [])) (Post (vint w8 code))
   exits code now code< long is =
       qed W (‵ (Seen now) ∷ ‵ (Borrow now) ∷ ‵ (flft κ q) ∷ []) ∵
       suffices ! _ (ends-at 𝓤 H A f.ended stayed (f.clauses 𝓤 H A mem run) W (((κ, tt), (q, tt), tt, a, at), tt) (vint w8 code) code (now, (tt, tt)) (long, (tt, tt))) $ says ! is $
@@ -153,7 +150,7 @@ module _ {M : Type 1} (𝓤 : URA M) (H : Heap 𝓤) (A : Atoms 𝓤) (W : Given
       E = (tyInt w8, l₀) ∷ (slice, l₁) ∷ (tyInt w64, l₂) ∷ (tyInt w8, l₃) ∷ (Sn′.mir, l₄) ∷ (tyInt w64, l₅) ∷ (tyInt w64, l₆) ∷ (tyBool, l₇) ∷ (tyInt w64, l₈) ∷ (tyBool, l₉) ∷ (tyPtr, l₁₀) ∷ []
 
       -- after the `if`; local k stands at 3 + 2 · (10 − k)
-      ending : (now : List Station) → length now ≡ length t → Owed n t code now
+      ending : (now : List Station) → length now ≡ length t → OpensTo n t code now
           → Sq W (‵ (Seen now) ∷ ‵ (Borrow now) ∷ ‵ (flft κ q) ∷ bare tyPtr l₁₀ (bare tyBool l₉ (bare (tyInt w64) l₈ (bare tyBool l₇ (bare (tyInt w64) l₆ (bare (tyInt w64) l₅ (bare Sn′.mir l₄ (full (tyInt w8) l₃ (vint w8 code) (bare (tyInt w64) l₂ (bare slice l₁ (bare (tyInt w8) l₀ []))))))))))) (runs (𝓣 .C) (𝓣 .Λ) E body.t-5 (atRet E Post))
       ending now long is =
           sets ! (of-opd ! (local ! 17 refl)) 23 refl (tt, record { fits = code< }) $
@@ -173,7 +170,7 @@ module _ {M : Type 1} (𝓤 : URA M) (H : Heap 𝓤) (A : Atoms 𝓤) (W : Given
         Left = afterBlock 𝓤 H (afterSeq 𝓤 H (Wp 𝓤 H (𝓣 .C) (𝓣 .Λ) E body.t-5 (atReturn 𝓤 H E Post)) (atReturn 𝓤 H E Post))
 
         -- local k stands at 4 + 2 · (10 − k)
-        pass : Is Sn.the-row s (recordVals s) → ((now : List Station) → now ≡ replicate (length t) s → Owed n t code now) → (x : Far)
+        pass : Is Sn.the-row s (recordVals s) → ((now : List Station) → now ≡ replicate (length t) s → OpensTo n t code now) → (x : Far)
             → Sq W (Inv x) (runs (𝓣 .C) (𝓣 .Λ) E body.turn-1 (anyQ (afterTurn 𝓤 H (Below 𝓤 H A (Nearer (length t) (Begun t s)) Inv x) Left)))
         unfolding afterTurn
         pass is told x =

@@ -1,4 +1,4 @@
--- Proof of `seat_of`: the index of the peer, below 32 as every index is.
+-- Proof of `seat_of`: the index of the peer.
 use mathlib.Core.Path.{ap, _∙_}
 use borrow.Author.Needs.{needs}
 use Rattle.station.specs.Stations.{indexOf}
@@ -12,7 +12,7 @@ index-of-requires : tie.Need-index-of-requires
 index-of-requires c κs = search needs
 
 returns : tie.Need-returns
-returns c = (c .index-of .ensures .0 ∙ ap indexOf (c .before .peer-of .ensures), c .index-of .ensures .1)
+returns c = c .index-of .ensures ∙ ap indexOf (c .before .peer-of .ensures)
 
 pub seat-of-spec : {M : Type 1} → statement M
 seat-of-spec = tie.close (tie.spec peer-of-requires index-of-requires returns)

@@ -45,20 +45,21 @@ use denote.Triple.Walked.{says, Stays, gave-slice, stay-none, walkOf, goes-gave-
 use denote.Exit.{yes}
 use Rattle.station.specs.declared.Station.{Station}
 use Rattle.station.specs.declared.Step.{Step}
-use Rattle.station.specs.Names.{NOT_WELL_FORMED}
+use Rattle.station.specs.Names.{STATIONS, NOT_WELL_FORMED}
+use Rattle.station.proofs.Laws.{index-below}
 use Rattle.station.specs.Stations.{namedBy, indexOf}
 use Rattle.station.proofs.Head as Hd
 use Rattle.station.proofs.Head.Laws as Hd′
 use Rattle.station.proofs.Station as Sn
 use Rattle.station.proofs.Step as St
 use Rattle.station.proofs.Step.Laws as St′
-use Rattle.table.specs.Table.{headIn, wellFormed, seat, seatOf, answer, after}
+use Rattle.table.specs.Table.{headIn, wellFormed, seat, seatOf, ActsTo, StepsTo}
 use Rattle.table.proofs.Places.{recordBytes, record-fits}
 use Rattle.table.proofs.InTable.{stepVals, head-out, head-back}
 use Rattle.walks.proofs.Locals.{placed, local, field-of, times, offset-to, sets, changes}
 use Rattle.walks.proofs.Calls.{calls-plain, calls-looking}
 use Rattle.walks.proofs.Return.{leaves}
-use Rattle.table.proofs.Answers.{formed-length, Acted, acted, failed}
+use Rattle.table.proofs.Answers.{formed-length, acted, failed}
 use Rattle.table.proofs.well_formed as well-formed
 use Rattle.table.proofs.well_formed.Symbol as well-formed-def
 use Rattle.table.proofs.well_formed.Symbol.{name as #table·well-formed}
@@ -117,7 +118,7 @@ module _ {M : Type 1} (𝓤 : URA M) (H : Heap 𝓤) (A : Atoms 𝓤) (W : Given
   abbrev Post : Val → SProp 𝓤
   Post = walkOf 𝓤 H A f.ended stays (f.clauses 𝓤 H A at-mem run) .post (((κ, tt), (q, tt), tt, args, vals), tt)
 
-  exits : (code : ℕ) (v : Val) (u : List Station) → (code ≡ answer n t x) × (u ≡ after n t x) → length u ≡ length t
+  exits : (code : ℕ) (v : Val) (u : List Station) → StepsTo n x t code u → length u ≡ length t
       → ent 𝓤 (⋆ 𝓤 H A ((‵ (flft κ q) ⊛ ‵ ftrue) ∷ ‵ (finally Sn.the-row γ u) ∷ ‵ (u8 .own code (v ∷ [])) ∷ [])) (Post v)
   exits code v u e l =
       qed W ((‵ (flft κ q) ⊛ ‵ ftrue) ∷ ‵ (finally Sn.the-row γ u) ∷ ‵ (u8 .own code (v ∷ [])) ∷ []) ∵
@@ -161,10 +162,11 @@ module _ {M : Type 1} (𝓤 : URA M) (H : Heap 𝓤) (A : Atoms 𝓤) (W : Given
         (and-then ! (local ! 26 refl) (no-more !)) (λ s es gs.
         land ! (from ! (stop !)) (init ! 9 refl (tt, record { fits = gs .1 })) $
         calls-plain ! fm (index-of.signature .params) (index-of.signature .result) (index-of.ended .kept) (index-of.clauses 𝓤 H A at-mem run) (known .index) (s, tt) tt (vint w64 s ∷ [], tt)
-        (uint-makes 𝓤 H A W w64, tt) ((refl, gs .1), tt) (id⊢ 𝓤 (emp 𝓤)) (vint w64) (uint-tells w64) (λ i. (i ≡ indexOf s) × (i < 32)) (λ _ _. id⊢ 𝓤 _)
+        (uint-makes 𝓤 H A W w64, tt) ((refl, gs .1), tt) (id⊢ 𝓤 (emp 𝓤)) (vint w64) (uint-tells w64) (λ i. i ≡ indexOf s) (λ _ _. id⊢ 𝓤 _)
         (and-then ! (local ! 10 refl) (no-more !)) (λ i ei gi.
-        let li : i < length t = subst (λ (m : ℕ). i < m) (sym (formed-length n t formed)) (ei .1) in
-        let mi = record-fits i (ei .1) in
+        let below : i < STATIONS = subst (λ (k : ℕ). k < STATIONS) (sym ei) (index-below s) in
+        let li : i < length t = subst (λ (m : ℕ). i < m) (sym (formed-length n t formed)) below in
+        let mi = record-fits i below in
         land ! (from ! (stop !)) (init ! 23 refl (tt, record { fits = gi .1 })) $
         -- next = table[i].head.next, with the borrow open
         changes ! (times ! recordBytes tt (local ! 23 refl) mi) 9 refl (tt, record { fits = mi }) $
@@ -175,25 +177,26 @@ module _ {M : Type 1} (𝓤 : URA M) (H : Heap 𝓤) (A : Atoms 𝓤) (W : Given
         head-back ! fullShare t i b o gh $ closes-slice ! tt Sn.the-row t t refl b o $
         -- j = seat_of(step, next); [obs; the borrow; the token; what n and the step own; _14; …]
         calls-plain ! fm (seat-of.signature .params) (seat-of.signature .result) (seat-of.ended .kept) (seat-of.clauses 𝓤 H A at-mem run) (known .seat) (x, (headIn t i .next, tt)) tt (stepVals x, (vint w8 (headIn t i .next) ∷ [], tt))
-        (LE.makes St.the-type St′.the-plain 𝓤 H A, (uint-makes 𝓤 H A W w8, tt)) (gx, ((refl, next< .1), tt)) (id⊢ 𝓤 (emp 𝓤)) (vint w64) (uint-tells w64) (λ j. (j ≡ seatOf x (headIn t i .next)) × (j < 32)) (λ _ _. id⊢ 𝓤 _)
+        (LE.makes St.the-type St′.the-plain 𝓤 H A, (uint-makes 𝓤 H A W w8, tt)) (gx, ((refl, next< .1), tt)) (id⊢ 𝓤 (emp 𝓤)) (vint w64) (uint-tells w64) (λ j. j ≡ seatOf x (headIn t i .next)) (λ _ _. id⊢ 𝓤 _)
         (and-then ! (local ! 27 refl) (and-then ! (local ! 23 refl) (no-more !))) (λ j ej gj.
-        let lj : j < length t = subst (λ (m : ℕ). j < m) (sym (formed-length n t formed)) (ej .1) in
+        let under : j < STATIONS = subst (λ (k : ℕ). k < STATIONS) (sym ej) (index-below _) in
+        let lj : j < length t = subst (λ (m : ℕ). j < m) (sym (formed-length n t formed)) under in
         land ! (from ! (stop !)) (init ! 20 refl (tt, record { fits = gj .1 })) $
         -- act_on(table, n, step, i, j)
         sets ! (addr ! (from ! (fld ! refl (hop ! (look-in ! 30 (sub ! 0 refl (whole !))) (stop !))))) 6 refl (tt, tt) $
         sets ! (agg ! (and-then ! (local ! 6 refl) (and-then ! (field-of ! 30 refl refl refl) (no-more !)))) 4 refl (tt, (tt, (record { fits = room .0 }, tt))) $
-        use3 W (raw (tripleOf 𝓤 H A act-on.signature (act-on.spec 𝓤 H A at-mem run) .pre (Handed i j (gi .1) (gj .1)))) (hands i j (gi .1) (gj .1) ((li, lj), (ei .1, ej .1))) $
+        use3 W (raw (tripleOf 𝓤 H A act-on.signature (act-on.spec 𝓤 H A at-mem run) .pre (Handed i j (gi .1) (gj .1)))) (hands i j (gi .1) (gj .1) ((li, lj), (below, under))) $
         calls-at-last ! fm (tripleOf 𝓤 H A act-on.signature (act-on.spec 𝓤 H A at-mem run)) (known .act) (Handed i j (gi .1) (gj .1)) (and-then ! (local ! 2 refl) (and-then ! (local ! 26 refl) (and-then ! (local ! 24 refl) (and-then ! (local ! 22 refl) (and-then ! (local ! 18 refl) (no-more !)))))) (λ v.
         use1 W (later (some (λ (c : ℕ). ((‵ (flft κ q) ⊛ ‵ ftrue) ⊛ ‵ (u8 .own c (v ∷ []))) ⊛ raw (ensured 𝓤 H A act-on.ended (act-on.clauses 𝓤 H A at-mem run) (κ, tt) (ref, (n, (x, (i, (j, tt))))) tt c)))) (id⊢ 𝓤 _) $ await ! tt $ pick ! (λ c.
-        split ! $ move ! (1 ∷ []) $ use1 W (some (λ (us : List Station × (Unit {0} × (Unit {0} × (Unit {0} × (Unit {0} × Unit {0}))))). ‵ (lasts act-on.ended (κ, tt) (ref, (n, (x, (i, (j, tt))))) us) ⊛ raw (fact 𝓤 (Acted n t x c (us .0) i j)))) (id⊢ 𝓤 _) $ pick ! (λ us.
-        split ! $ move ! (1 ∷ []) $ heard ! (Acted n t x c (us .0) i j) (λ did. fsplit ! $ fsplit ! $ move ! (1 ∷ []) $ feqL ! (λ same.
+        split ! $ move ! (1 ∷ []) $ use1 W (some (λ (us : List Station × (Unit {0} × (Unit {0} × (Unit {0} × (Unit {0} × Unit {0}))))). ‵ (lasts act-on.ended (κ, tt) (ref, (n, (x, (i, (j, tt))))) us) ⊛ raw (fact 𝓤 (ActsTo n x i j t c (us .0))))) (id⊢ 𝓤 _) $ pick ! (λ us.
+        split ! $ move ! (1 ∷ []) $ heard ! (ActsTo n x i j t c (us .0)) (λ did. fsplit ! $ fsplit ! $ move ! (1 ∷ []) $ feqL ! (λ same.
         -- [the last table; …; the token and the result; what n and the step own; _14; …]
         move ! (2 ∷ []) $ split ! $ move ! (1 ∷ []) $ peeks ! u8 (Is u8) (shows 𝓤 H A u8) c (v ∷ []) (λ is.
         land-last ! (from ! (stop !)) (init ! 13 refl (uint-lawful 𝓤 H A W w8 .typed c _ is .0)) $ exec ! C Λ E body.t-5 (atRet E Post) $
         sets ! (of-opd ! (local ! 13 refl)) 33 refl (uint-lawful 𝓤 H A W w8 .typed c _ is .0) $
         returns ! (look ! 33 refl) $
         forget ! 5 refl $ forget ! 7 refl $ forget ! 9 refl $ forget ! 11 refl $ forget ! 13 refl $ forget ! 15 refl $ forget ! 17 refl $ forget ! 19 refl $ forget ! 21 refl $ forget ! 23 refl $ forget ! 25 refl $ forget ! 27 refl $ forget ! 29 refl $ forget ! 31 refl $ forget ! 33 refl $ leaves ! 5 refl $
-        keep ! (1 ∷ 2 ∷ 0 ∷ []) $ by ! (exits c v (us .0) (acted n t x c (us .0) i j formed (ei .0 ∙ ap indexOf es) (ej .0) did) same))))))))))))
+        keep ! (1 ∷ 2 ∷ 0 ∷ []) $ by ! (exits c v (us .0) (acted n t x c (us .0) i j formed (ei ∙ ap indexOf es) ej did) same))))))))))))
         (λ left.
         assigns-last ! (of-opd ! (lit ! tt)) (from ! (stop !)) (init ! 11 refl (tt, record { fits = lit< tt })) $ exec ! C Λ E body.t-5 (atRet E Post) $
         sets ! (of-opd ! (local ! 11 refl)) 31 refl (tt, record { fits = lit< tt }) $

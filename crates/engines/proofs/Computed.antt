@@ -3,8 +3,8 @@ use Rattle.station.specs.Stations.{countOk, isStation, stationsOk, indexOf, isA
 use Rattle.rows.specs.Rows.{goesFirst, answersNow, onward, larger, raised, askRule, sendRule, enterRule, leaveRule, giveRule, takeRequestRule, takeAnswerRule, stepRule, outcome}
 use Rattle.form.specs.Form.{nextOk, dueOk, ownOk, headOk, newHead, emptyCells, inUse, cellOk, cellsOk, recordOk}
 use Rattle.table.specs.Table.{recordsOk, sized, wellFormed, answer, after}
-use Rattle.demands.specs.Demands.{Engine, ours, tableAfter, acceptedOf, words, entries}
+use Rattle.engines.specs.Engines.{Engine, ours, tableAfter, acceptedOf, entries}
 
 unfoldable pub computed : Engine
-unfolding countOk isStation stationsOk indexOf isAsking goesFirst answersNow onward larger raised askRule sendRule enterRule leaveRule giveRule takeRequestRule takeAnswerRule stepRule outcome nextOk dueOk ownOk headOk newHead emptyCells inUse cellOk cellsOk recordOk recordsOk sized wellFormed answer after tableAfter acceptedOf words entries
+unfolding countOk isStation stationsOk indexOf isAsking goesFirst answersNow onward larger raised askRule sendRule enterRule leaveRule giveRule takeRequestRule takeAnswerRule stepRule outcome nextOk dueOk ownOk headOk newHead emptyCells inUse cellOk cellsOk recordOk recordsOk sized wellFormed answer after tableAfter acceptedOf entries
 computed = ours

@@ -7,12 +7,7 @@ use lib.Dec.{eqb, leb}
 use borrow.Author.Tests.{eqb-false, leb-true, not-true, ne-eqb, le-leb}
 use Rattle.station.specs.declared.Cells.{Cells}
 use Rattle.station.proofs.Laws.{by-test}
-use Rattle.form.specs.Form.{newCells, emptyCells, inUse, cellOk, cellsOk}
-use Rattle.form.proofs.Scans.{Scan}
-
-pub cells-scan : (n s : ℕ) → Scan (cellOk n s) (cellsOk n s)
-unfolding cellsOk
-cells-scan n s = record { none = λ _. refl; some = λ _ _ _. refl }
+use Rattle.form.specs.Form.{newCells, emptyCells, inUse, cellOk}
 
 pub in-use : (n s t : ℕ) → s ≤ n → t ≤ n → s ≢ t → inUse n s t ≡ true
 unfolding inUse

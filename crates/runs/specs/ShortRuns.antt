@@ -1,4 +1,4 @@
--- Runs of our rules at two stations that meet the bounds of the demands, so that these are not empty.
+-- Runs of our rules that meet the bounds of the demands, so that these are not empty. All of them are at N = 2.
 use mathlib.Core.Path.{_≡_}
 use mathlib.Core.List.{List, [], _∷_, _++_}
 use Prim.Native.Nat.{ℕ, zero, suc}
@@ -7,8 +7,11 @@ use Rattle.station.specs.declared.Step.{Step}
 use Rattle.station.specs.declared.Step.the-variants.{Ask, Send, Enter, Leave, Give, TakeRequest, TakeAnswer}
 use Rattle.station.specs.Names.{ACCEPTED, NO_NUMBER_LEFT}
 use Rattle.table.specs.Table.{headIn, cellsIn, answer, after}
-use Rattle.demands.specs.Demands.{ours, tableAfter, reached, acceptedOf, entries}
-use Rattle.demands.specs.Cases.{tie}
+use Rattle.engines.specs.Engines.{ours, tableAfter, reached, acceptedOf, entries}
+
+-- 01, "Both sides of each edge": "Tie, N = 2, both asked with number 1 and both sent to the end"
+abbrev pub tie : List Step
+tie = Ask 1 ∷ Ask 2 ∷ Send 1 ∷ Send 1 ∷ Send 2 ∷ Send 2 ∷ []
 
 -- ---- one-entry's bound is met: in the tie station 1 takes 2's request, then enters once before 2 does
 -- the table in which 1 has just taken 2's request

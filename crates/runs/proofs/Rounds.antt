@@ -15,9 +15,9 @@ use Rattle.station.specs.declared.Step.the-variants.{Ask, Send, Enter, Leave, G
 use Rattle.station.specs.Names.{IDLE, SENDING, WAITING, HOLDING, GIVING, LAST_NUMBER}
 use Rattle.form.specs.Form.{newCells, newStation}
 use Rattle.table.specs.Table.{after}
-use Rattle.demands.specs.Demands.{ours, tableAfter}
-use Rattle.demands.specs.ShortRuns.{round}
-use Rattle.demands.proofs.Computed.{computed}
+use Rattle.engines.specs.Engines.{ours, tableAfter}
+use Rattle.runs.specs.ShortRuns.{round}
+use Rattle.engines.proofs.Computed.{computed}
 
 -- the asker is station 1, or it is station 2
 abbrev asker : Bool → ℕ

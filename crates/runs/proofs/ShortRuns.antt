@@ -9,11 +9,11 @@ use Rattle.station.specs.declared.Station.{Station}
 use Rattle.station.specs.declared.Step.the-variants.{Ask}
 use Rattle.station.specs.Names.{LAST_NUMBER, NO_NUMBER_LEFT}
 use Rattle.table.specs.Table.{answer}
-use Rattle.demands.specs.Demands.{ours, tableAfter, entries}
-use Rattle.demands.specs.ShortRuns.{BoundMet, untaken, lap, laps, Repeats, round, rounds, NumbersEnd}
-use Rattle.demands.proofs.Computed.{computed}
-use Rattle.demands.proofs.Lists.{after-append, entries-append}
-use Rattle.demands.proofs.Rounds.{rest, round-leaves}
+use Rattle.engines.specs.Engines.{ours, tableAfter, entries}
+use Rattle.runs.specs.ShortRuns.{BoundMet, untaken, lap, laps, Repeats, round, rounds, NumbersEnd}
+use Rattle.engines.proofs.Computed.{computed}
+use Rattle.engines.proofs.Lists.{after-append, entries-append}
+use Rattle.runs.proofs.Rounds.{rest, round-leaves}
 
 pub bound-met : BoundMet
 unfolding computed

@@ -1,0 +1,3 @@
+-- The runs of specs/, computed.
+pub mod Rounds
+pub mod ShortRuns

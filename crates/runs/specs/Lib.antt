@@ -1,0 +1,2 @@
+-- What a reader must believe: runs that meet the bounds of the demands.
+pub mod ShortRuns
