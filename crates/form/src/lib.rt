@@ -1,4 +1,6 @@
 // The form of one record: as opening writes it, and as 01 asks of it in a table.
+#![tactic(auto)]
+
 ghost use Rattle.std.specs.Prelude.{◌≡◌};
 ghost use Rattle.form.specs.Form.{new_station, empty_cells, in_use, cell_ok, cells_ok, next_ok, due_ok, own_ok, head_ok, new_head, record_ok};
 
@@ -24,6 +26,7 @@ pub fn new_station() -> Station
     }
 }
 
+#[tactic(auto, unfolding(crate::specs::Form::in_use))]
 fn in_use(n: usize, s: usize, t: usize) -> bool
     ensures { result ≡ in_use n s t }
 {
@@ -36,6 +39,7 @@ fn in_use(n: usize, s: usize, t: usize) -> bool
     s != t
 }
 
+#[tactic(auto, unfolding(crate::specs::Form::empty_cells))]
 fn are_empty(cells: Cells) -> bool
     ensures { result ≡ empty_cells cells }
 {
@@ -48,6 +52,7 @@ fn are_empty(cells: Cells) -> bool
     cells.request == 0
 }
 
+#[tactic(auto, unfolding(crate::specs::Form::cell_ok))]
 fn cell_ok(n: usize, s: usize, t: usize, cells: Cells) -> bool
     ensures { result ≡ cell_ok n s t cells }
 {
@@ -72,6 +77,7 @@ fn cells_ok(n: usize, s: usize, station: Station) -> bool
     true
 }
 
+#[tactic(auto, unfolding(crate::specs::Form::next_ok))]
 fn next_ok(n: usize, head: Head) -> bool
     ensures { result ≡ next_ok n head }
 {
@@ -85,6 +91,7 @@ fn next_ok(n: usize, head: Head) -> bool
     next == 1
 }
 
+#[tactic(auto, unfolding(crate::specs::Form::due_ok))]
 fn due_ok(n: usize, head: Head) -> bool
     ensures { result ≡ due_ok n head }
 {
@@ -98,6 +105,7 @@ fn due_ok(n: usize, head: Head) -> bool
     due == 0
 }
 
+#[tactic(auto, unfolding(crate::specs::Form::own_ok))]
 fn own_ok(head: Head) -> bool
     ensures { result ≡ own_ok head }
 {
@@ -107,6 +115,7 @@ fn own_ok(head: Head) -> bool
     true
 }
 
+#[tactic(auto, unfolding(crate::specs::Form::head_ok))]
 fn head_ok(n: usize, head: Head) -> bool
     ensures { result ≡ head_ok n head }
 {
@@ -121,6 +130,7 @@ fn head_ok(n: usize, head: Head) -> bool
     false
 }
 
+#[tactic(auto, unfolding(crate::specs::Form::new_head))]
 fn is_new(head: Head) -> bool
     ensures { result ≡ new_head head }
 {
@@ -140,6 +150,7 @@ fn is_new(head: Head) -> bool
 }
 
 // Whether a record has the form of station s among n; above n, that of a record that no station uses.
+#[tactic(auto, unfolding(crate::specs::Form::record_ok))]
 pub fn record_ok(n: usize, s: usize, station: Station) -> bool
     ensures { result ≡ record_ok n s station }
 {

@@ -1,4 +1,5 @@
 // Frames: one hexadecimal pair, one line of six characters and a line feed, and the step that it says.
+#![tactic(auto)]
 ghost use Rattle.std.specs.Prelude.{◌≡◌};
 ghost use Rattle.frames.specs.Frames.{digit_of, hex_of, byte_of, pair_of, alone_of, meaning_of, frame_at};
 
@@ -12,13 +13,13 @@ const LINE_FEED: u8 = 10;
 // The kind of the first frame.
 const OPEN: u8 = 240;
 
-#[derive(Drop)]
+#[derive(Clone, Copy)]
 pub enum Byte {
     Value(u8),
     Bad,
 }
 
-#[derive(Drop)]
+#[derive(Clone, Copy)]
 pub enum Frame {
     Open(usize),
     Move(Step),
@@ -26,7 +27,7 @@ pub enum Frame {
 }
 
 // The two characters of a byte.
-#[derive(Drop)]
+#[derive(Clone, Copy)]
 pub struct Pair {
     pub high: u8,
     pub low: u8,

@@ -1,4 +1,5 @@
 // A network that goes by value: the table is made here, lent to the crate table's own functions, and given back.
+#![tactic(auto)]
 ghost use Rattle.std.specs.Prelude.{◌≡◌};
 ghost use Rattle.network.specs.Network.{opened_for, stepped_by};
 

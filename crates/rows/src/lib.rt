@@ -1,4 +1,6 @@
 // The seven rows: one step on the head of the station that takes it and on the two cells between it and one peer.
+#![tactic(auto)]
+
 ghost use Rattle.std.specs.Prelude.{◌≡◌, true, ◌≤◌};
 ghost use Rattle.station.specs.Stations.{count_ok, stations_ok};
 ghost use Rattle.rows.specs.Rows.{goes_first, answers_now, outcome_of, onward, larger, ask_rule, send_rule, enter_rule, leave_rule, give_rule, take_request_rule, take_answer_rule, step_rule, outcome};
@@ -9,7 +11,7 @@ use station::{
 };
 
 // What a step makes of the named station's head, its cells for the peer, and the peer's cells for it.
-#[derive(Drop)]
+#[derive(Clone, Copy)]
 pub struct Outcome {
     pub code: u8,
     pub head: Head,
@@ -18,6 +20,7 @@ pub struct Outcome {
 }
 
 // Whether station t's request goes before station s's own number.
+#[tactic(auto, unfolding(crate::specs::Rows::goes_first))]
 fn goes_first(request: u16, t: usize, own: u16, s: usize) -> bool
     requires { ((1 ≤ t) × (t ≤ 32)) × ((1 ≤ s) × (s ≤ 32)) }
     ensures { result ≡ goes_first request t own s }
@@ -28,6 +31,7 @@ fn goes_first(request: u16, t: usize, own: u16, s: usize) -> bool
     request < own
 }
 
+#[tactic(auto, unfolding(crate::specs::Rows::answers_now))]
 fn answers_now(request: u16, t: usize, place: u8, own: u16, s: usize) -> bool
     requires { ((1 ≤ t) × (t ≤ 32)) × ((1 ≤ s) × (s ≤ 32)) }
     ensures { result ≡ answers_now request t place own s }
@@ -38,6 +42,7 @@ fn answers_now(request: u16, t: usize, place: u8, own: u16, s: usize) -> bool
     true
 }
 
+#[tactic(auto, unfolding(crate::specs::Rows::larger))]
 fn the_larger(a: u16, b: u16) -> u16
     ensures { result ≡ larger a b }
 {
@@ -56,6 +61,7 @@ fn outcome_of(code: u8, head: Head, mine: Cells, theirs: Cells) -> Outcome
 }
 
 // On to the next peer, or after the last one to the place `then`.
+#[tactic(auto, unfolding(crate::specs::Rows::onward))]
 fn go_onward(n: usize, head: Head, then: u8) -> Head
     requires { n ≤ 32 }
     ensures { result ≡ onward n head then }
@@ -70,6 +76,7 @@ fn go_onward(n: usize, head: Head, then: u8) -> Head
     moved
 }
 
+#[tactic(auto, unfolding(crate::specs::Rows::ask_rule))]
 fn ask(n: usize, head: Head, mine: Cells, theirs: Cells) -> Outcome
     requires { (2 ≤ n) × (n ≤ 32) }
     ensures { result ≡ ask_rule n head mine theirs }
@@ -88,6 +95,7 @@ fn ask(n: usize, head: Head, mine: Cells, theirs: Cells) -> Outcome
     outcome_of(ACCEPTED, asked, mine, theirs)
 }
 
+#[tactic(auto, unfolding(crate::specs::Rows::send_rule))]
 fn send(n: usize, s: usize, head: Head, mine: Cells, theirs: Cells) -> Outcome
     requires { n ≤ 32 }
     ensures { result ≡ send_rule n s head mine theirs }
@@ -106,6 +114,7 @@ fn send(n: usize, s: usize, head: Head, mine: Cells, theirs: Cells) -> Outcome
     outcome_of(ACCEPTED, go_onward(n, head, WAITING), mine, filled)
 }
 
+#[tactic(auto, unfolding(crate::specs::Rows::enter_rule))]
 fn enter(head: Head, mine: Cells, theirs: Cells) -> Outcome
     ensures { result ≡ enter_rule head mine theirs }
 {
@@ -120,6 +129,7 @@ fn enter(head: Head, mine: Cells, theirs: Cells) -> Outcome
     outcome_of(ACCEPTED, entered, mine, theirs)
 }
 
+#[tactic(auto, unfolding(crate::specs::Rows::leave_rule))]
 fn leave(head: Head, mine: Cells, theirs: Cells) -> Outcome
     ensures { result ≡ leave_rule head mine theirs }
 {
@@ -132,6 +142,7 @@ fn leave(head: Head, mine: Cells, theirs: Cells) -> Outcome
     outcome_of(ACCEPTED, left, mine, theirs)
 }
 
+#[tactic(auto, unfolding(crate::specs::Rows::give_rule))]
 fn give(n: usize, head: Head, mine: Cells, theirs: Cells) -> Outcome
     requires { n ≤ 32 }
     ensures { result ≡ give_rule n head mine theirs }
@@ -152,6 +163,7 @@ fn give(n: usize, head: Head, mine: Cells, theirs: Cells) -> Outcome
     outcome_of(ACCEPTED, go_onward(n, head, IDLE), mine, theirs)
 }
 
+#[tactic(auto, unfolding(crate::specs::Rows::take_request_rule, crate::specs::Rows::raised))]
 fn take_request(s: usize, t: usize, head: Head, mine: Cells, theirs: Cells) -> Outcome
     requires { ((1 ≤ t) × (t ≤ 32)) × ((1 ≤ s) × (s ≤ 32)) }
     ensures { result ≡ take_request_rule s t head mine theirs }
@@ -178,6 +190,7 @@ fn take_request(s: usize, t: usize, head: Head, mine: Cells, theirs: Cells) -> O
     outcome_of(ACCEPTED, raised, taken, theirs)
 }
 
+#[tactic(auto, unfolding(crate::specs::Rows::take_answer_rule))]
 fn take_answer(head: Head, mine: Cells, theirs: Cells) -> Outcome
     ensures { result ≡ take_answer_rule head mine theirs }
 {
@@ -195,6 +208,7 @@ fn take_answer(head: Head, mine: Cells, theirs: Cells) -> Outcome
 }
 
 // The row of a step whose count and stations are in range.
+#[tactic(auto, unfolding(crate::specs::Rows::step_rule, station::specs::Stations::stations_ok))]
 fn work(n: usize, step: Step, head: Head, mine: Cells, theirs: Cells) -> Outcome
     requires { (count_ok n ≡ true) × (stations_ok n step ≡ true) }
     ensures { result ≡ step_rule n step head mine theirs }
@@ -211,6 +225,7 @@ fn work(n: usize, step: Step, head: Head, mine: Cells, theirs: Cells) -> Outcome
 }
 
 // The step on the head of the station that it names, that station's cells for the peer, and the peer's cells for it.
+#[tactic(auto, unfolding(crate::specs::Rows::outcome))]
 pub fn act(n: usize, step: Step, head: Head, mine: Cells, theirs: Cells) -> Outcome
     ensures { result ≡ outcome n step head mine theirs }
 {

@@ -1,4 +1,5 @@
 // The run: a list of frames in, a line out for each, over a table that is lent to the crate table's own functions.
+#![tactic(auto)]
 ghost use Rattle.std.specs.Prelude.{◌≡◌, ◌+◌, ◌*◌, ◌≤◌, length};
 ghost use Rattle.std.proofs.lemmas.List.Edits.{sets};
 ghost use Rattle.session.specs.Session.{shown_of, pair_line, line_of, lines_in, RoomFor, LinesWritten, Ran};

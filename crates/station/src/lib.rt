@@ -1,4 +1,6 @@
 // What a station is: its record, its places and the codes by their names, a step, and which stations a step names.
+#![tactic(auto)]
+
 ghost use Rattle.std.specs.Prelude.{◌≡◌};
 ghost use Rattle.station.specs.Stations.{count_ok, is_station, stations_ok, named_by, peer_of, index_of, is_asking};
 
@@ -37,7 +39,7 @@ pub const NO_NUMBER_LEFT: u8 = 7;
 pub const AT_ODDS: u8 = 8;
 
 // A step, with the numbers of its stations: any number, since a caller may name a station that is not there.
-#[derive(Drop)]
+#[derive(Clone, Copy)]
 pub enum Step {
     Ask(usize),
     Send(usize),
@@ -49,7 +51,7 @@ pub enum Step {
 }
 
 #[repr(C)]
-#[derive(Drop)]
+#[derive(Clone, Copy)]
 pub struct Head {
     pub place: u8,
     pub own: u16,
@@ -60,7 +62,7 @@ pub struct Head {
 
 // Between a station and one peer: the request under way from the peer (0: none), an answer under way from it, the mark for it.
 #[repr(C)]
-#[derive(Drop)]
+#[derive(Clone, Copy)]
 pub struct Cells {
     pub request: u16,
     pub answer: bool,
@@ -68,12 +70,13 @@ pub struct Cells {
 }
 
 #[repr(C)]
-#[derive(Drop)]
+#[derive(Clone, Copy)]
 pub struct Station {
     pub head: Head,
     pub cells: [Cells; STATIONS],
 }
 
+#[tactic(auto, unfolding(crate::specs::Stations::count_ok))]
 pub fn count_ok(n: usize) -> bool
     ensures { result ≡ count_ok n }
 {
@@ -83,6 +86,7 @@ pub fn count_ok(n: usize) -> bool
     n <= STATIONS
 }
 
+#[tactic(auto, unfolding(crate::specs::Stations::is_station))]
 pub fn is_station(n: usize, s: usize) -> bool
     ensures { result ≡ is_station n s }
 {
@@ -92,6 +96,7 @@ pub fn is_station(n: usize, s: usize) -> bool
     s <= n
 }
 
+#[tactic(auto, unfolding(crate::specs::Stations::stations_ok))]
 fn are_two_stations(n: usize, s: usize, t: usize) -> bool
     ensures { result ≡ stations_ok n (Step.TakeRequest s t) }
 {
@@ -104,6 +109,7 @@ fn are_two_stations(n: usize, s: usize, t: usize) -> bool
 }
 
 // Whether the stations that a step names are there, and in a take are two.
+#[tactic(auto, unfolding(crate::specs::Stations::stations_ok))]
 pub fn stations_ok(n: usize, step: Step) -> bool
     ensures { result ≡ stations_ok n step }
 {
@@ -149,6 +155,7 @@ pub fn peer_of(step: Step, next: u8) -> usize
 }
 
 // Where the record of station s lies. Any s gets an index below 32, so that no caller can reach past a record.
+#[tactic(auto, unfolding(crate::specs::Stations::index_of))]
 pub fn index_of(s: usize) -> usize
     ensures { result ≡ index_of s }
 {
@@ -162,6 +169,7 @@ pub fn index_of(s: usize) -> usize
 }
 
 // Whether a station in a place is asking: Sending, Waiting or Holding.
+#[tactic(auto, unfolding(crate::specs::Stations::is_asking))]
 pub fn is_asking(place: u8) -> bool
     ensures { result ≡ is_asking place }
 {

@@ -1,7 +1,5 @@
 -- What several proofs of this crate share, and that a step keeps the form.
-pub mod Places
 pub mod InTable
-pub mod Look
 pub mod Leaves
 pub mod Unchanged
 pub mod Answers

@@ -1,10 +1,13 @@
 // The lent table: opened, checked, stepped in place and read, as a slice of station records with the count of stations beside it.
+#![tactic(auto)]
+
 ghost use Rattle.std.specs.Prelude.{◌≡◌, ◌<◌, length};
 ghost use Rattle.table.specs.Table.{head_of, open_code, OpensTo, well_formed, sized, seat_of, ActsTo, StepsTo, holder};
 
 use station::{ACCEPTED, BAD_COUNT, HOLDING, Head, NOT_WELL_FORMED, STATIONS, Station, Step};
 
 // What opening answers, by the length of the table and the count.
+#[tactic(auto, unfolding(crate::specs::Table::open_code))]
 fn opening(len: usize, n: usize) -> u8
     ensures { result ≡ open_code len n }
 {
@@ -34,6 +37,7 @@ pub fn open(table: &mut [Station], n: usize) -> u8
 }
 
 // Whether a table of len records can be one for n stations.
+#[tactic(auto, unfolding(crate::specs::Table::sized))]
 fn is_sized(len: usize, n: usize) -> bool
     ensures { result ≡ sized len n }
 {
