@@ -1,19 +1,20 @@
 // A network that goes by value: the table is made here, lent to the crate table's own functions, and given back.
 #![tactic(auto)]
+
 ghost use Rattle.std.specs.Prelude.{◌≡◌};
 ghost use Rattle.network.specs.Network.{opened_for, stepped_by};
 
 use station::{Head, STATIONS, Station, Step};
 
 // A table by value, and the code of its opening.
-#[derive(Drop)]
+#[derive(Clone, Copy)]
 pub struct Opened {
     pub code: u8,
     pub table: [Station; STATIONS],
 }
 
 // A table by value after a step: the code, the head of the station that the step names, and the station in Holding.
-#[derive(Drop)]
+#[derive(Clone, Copy)]
 pub struct Stepped {
     pub code: u8,
     pub head: Head,
@@ -34,6 +35,7 @@ pub fn open(n: usize) -> Opened
 }
 
 // One step: the table is lent to `table::step`, and then read.
+#[tactic(auto, unfolding(crate::specs::Network::stepped_by))]
 pub fn step(table: [Station; STATIONS], n: usize, step: Step) -> Stepped
     ensures { result ≡ stepped_by table n step }
 {

@@ -12,7 +12,8 @@ use Rattle.station.specs.Names.{STATIONS}
 use Rattle.station.specs.Stations.{count_ok, index_of}
 use Rattle.station.proofs.Laws.{count_range}
 use Rattle.form.specs.Form.{new_cells, new_station, new_head, head_ok, record_ok}
-use Rattle.form.proofs.Scans.{scan_all, cells_scan}
+use Rattle.walks.proofs.Along.{scan_all}
+use Rattle.form.proofs.Scans.{cells_scan}
 use Rattle.table.proofs.Heads.{formed}
 use Rattle.table.proofs.Wires.{new_ok}
 use Rattle.table.specs.Table.{head_in, cells_in, opened, records_ok, sized, well_formed, seat, peer_seat, outcome_in, after}

@@ -11,7 +11,8 @@ use Rattle.station.specs.declared.Cells.{Cells}
 use Rattle.station.specs.declared.Station.{Station}
 use Rattle.rows.specs.declared.Outcome.{Outcome}
 use Rattle.form.specs.Form.{new_cells, cell_ok, cells_ok, record_ok}
-use Rattle.form.proofs.Scans.{Scan, scan_at, scan_set, cells_scan}
+use Rattle.walks.proofs.Along.{Scan, scan_at, scan_set}
+use Rattle.form.proofs.Scans.{cells_scan}
 use Rattle.table.proofs.Wires.{new_ok}
 use Rattle.table.specs.Table.{no_station, head_in, cells_in, put_head, put_cells, records_ok, landed}
 use Rattle.table.proofs.Fits.{front_ok, Fits}

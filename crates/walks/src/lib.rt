@@ -1,1 +1,2 @@
-// No code: proofs/ has the steps of which a walk by hand through a function's code is made. It knows nothing of stations.
+// No code: proofs/ has the laws of a walk along a list, as a loop over an array or a slice takes it. They know nothing of stations.
+#![tactic(auto)]

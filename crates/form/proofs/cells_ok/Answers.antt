@@ -1,7 +1,8 @@
 -- One cell more: its own test decides whether the rest are asked.
 use Rattle.std.proofs.Common.{true, false, arith, sym, ◌∙◌}
 use Rattle.form.specs.Form.{new_cells}
-use Rattle.form.proofs.Scans.{scan_on, scan_end, cells_scan}
+use Rattle.walks.proofs.Along.{scan_on, scan_end}
+use Rattle.form.proofs.Scans.{cells_scan}
 use Rattle.form.proofs.cells_ok.Goals as goal
 
 pub loop-j-preserved : goal.loop-j-preserved

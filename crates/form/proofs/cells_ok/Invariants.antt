@@ -1,7 +1,7 @@
 -- At each index j the cells from there on decide, as all of them do.
 use Rattle.std.proofs.Common.{◌≡◌, ◌≤◌, ◌-◌, length}
 use Rattle.form.specs.Form.{cells_ok}
-use Rattle.form.proofs.Scans.{FromHere}
+use Rattle.walks.proofs.Along.{FromHere}
 use Rattle.form.proofs.cells_ok.Given as goal
 
 abbrev pub invariant-loop-j : goal.invariant-loop-j

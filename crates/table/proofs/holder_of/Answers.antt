@@ -2,7 +2,7 @@
 use Rattle.std.proofs.Common.{◌≡◌, ◌+◌, ◌<◌, ℕ, Bool, true, false, nat_eq, cond, List, length, drop, refl, sym, ap, ◌∙◌, arith, eq-eqb, ne_eqb}
 use Rattle.station.specs.declared.Station.{Station}
 use Rattle.station.specs.Names.{HOLDING}
-use Rattle.form.proofs.Scans.{FromHere, one_on, at_end}
+use Rattle.walks.proofs.Along.{FromHere, one_on, at_end}
 use Rattle.table.specs.Table.{no_station, head_in, holder_from, holder}
 use Rattle.table.proofs.holder_of.Goals as goal
 

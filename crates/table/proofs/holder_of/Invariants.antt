@@ -1,6 +1,6 @@
 -- No record before index i holds the turn: the records from there on decide, as all of them do.
 use Rattle.std.proofs.Common.{◌-◌, ◌≤◌, length}
-use Rattle.form.proofs.Scans.{FromHere}
+use Rattle.walks.proofs.Along.{FromHere}
 use Rattle.table.specs.Table.{holder_from}
 use Rattle.table.proofs.holder_of.Given as goal
 

@@ -1,6 +1,6 @@
 -- One record more: its own form decides whether the rest are asked.
 use Rattle.std.proofs.Common.{true, false, sym, ◌∙◌, arith}
-use Rattle.form.proofs.Scans.{scan_on, scan_end}
+use Rattle.walks.proofs.Along.{scan_on, scan_end}
 use Rattle.table.specs.Table.{no_station, well_formed}
 use Rattle.table.proofs.Records.{records_scan}
 use Rattle.table.proofs.well_formed.Goals as goal

@@ -1,6 +1,6 @@
 -- The records before index i have their form: those from there on decide, as all of them do.
 use Rattle.std.proofs.Common.{◌-◌, ◌≤◌, length}
-use Rattle.form.proofs.Scans.{FromHere}
+use Rattle.walks.proofs.Along.{FromHere}
 use Rattle.table.specs.Table.{records_ok}
 use Rattle.table.proofs.well_formed.Given as goal
 

@@ -1,2 +1,0 @@
--- What both walks of this crate share.
-pub mod ByValue
