@@ -1,5 +1,6 @@
 // Frames: one hexadecimal pair, one line of six characters and a line feed, and the step that it says.
 #![tactic(auto)]
+
 ghost use Rattle.std.specs.Prelude.{◌≡◌};
 ghost use Rattle.frames.specs.Frames.{digit_of, hex_of, byte_of, pair_of, alone_of, meaning_of, frame_at};
 
@@ -34,6 +35,7 @@ pub struct Pair {
 }
 
 // The value of a digit, 16 of any other character.
+#[tactic(auto, unfolding(crate::specs::Frames::digit_of))]
 fn digit(character: u8) -> u8
     ensures { result ≡ digit_of character }
 {
@@ -53,6 +55,7 @@ fn digit(character: u8) -> u8
 }
 
 // The byte that a pair of characters says.
+#[tactic(auto, unfolding(crate::specs::Frames::byte_of))]
 pub fn byte_of(high: u8, low: u8) -> Byte
     ensures { result ≡ byte_of high low }
 {
@@ -67,6 +70,7 @@ pub fn byte_of(high: u8, low: u8) -> Byte
 }
 
 // The character of a digit; of a larger number, that of its last digit.
+#[tactic(auto, unfolding(crate::specs::Frames::hex_of))]
 fn hex_of(value: u8) -> u8
     ensures { result ≡ hex_of value }
 {
@@ -78,6 +82,7 @@ fn hex_of(value: u8) -> u8
 }
 
 // The pair of characters that says a byte.
+#[tactic(auto, unfolding(crate::specs::Frames::pair_of))]
 pub fn pair_of(byte: u8) -> Pair
     ensures { result ≡ pair_of byte }
 {
@@ -88,6 +93,7 @@ pub fn pair_of(byte: u8) -> Pair
 }
 
 // What a frame says whose other byte is 00.
+#[tactic(auto, unfolding(crate::specs::Frames::alone_of))]
 fn alone(kind: u8, s: usize) -> Frame
     ensures { result ≡ alone_of kind s }
 {
@@ -113,6 +119,7 @@ fn alone(kind: u8, s: usize) -> Frame
 }
 
 // What the three bytes of a frame say.
+#[tactic(auto, unfolding(crate::specs::Frames::meaning_of))]
 pub fn meaning_of(kind: u8, station: u8, other: u8) -> Frame
     ensures { result ≡ meaning_of kind station other }
 {
@@ -131,6 +138,7 @@ pub fn meaning_of(kind: u8, station: u8, other: u8) -> Frame
 }
 
 // The frame whose line starts at `at`. A line that ends early, or has no line feed after its six characters, is a bad one.
+#[tactic(auto, unfolding(crate::specs::Frames::frame_at, crate::specs::Frames::of_bytes))]
 pub fn frame_at(input: &[u8], at: usize) -> Frame
     ensures { result ≡ frame_at input.now at }
 {

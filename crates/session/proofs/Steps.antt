@@ -6,22 +6,19 @@ use native.Mathlib.Omega.{arith}
 use lib.Dec.{eqb}
 use lib.ListN.{length, take, length-append}
 use lib.Seq.{sets, sets-eq, length-sets}
-use types.Run.{OneOf, miss}
-use denote.Enum.Declared.{tag_of}
 use Rattle.station.specs.declared.Station.{Station}
 use Rattle.station.specs.declared.Step.{Step}
 use Rattle.station.proofs.Laws.{by_test}
 use Rattle.station.specs.Names.{HOLDING}
-use Rattle.table.specs.Table.{after, holder_from, holder}
+use Rattle.table.specs.Table.{after, holder_from}
 use Rattle.table.proofs.Answers.{after_length}
-use Rattle.frames.specs.contracts.Frame.{the_type as frame-type}
 use Rattle.frames.specs.declared.Frame.{Frame}
 use Rattle.frames.specs.declared.Frame.TheVariants as frame
 use Rattle.frames.specs.Frames.{frame_at}
 use Rattle.network.specs.declared.Stepped.{Stepped}
 use Rattle.network.specs.Network.{stepped_by}
 use Rattle.session.specs.Session.{shown_of, line_of, step_line, bad_line, lines_in, frames_from, step_lines, LinesWritten}
-use Rattle.session.proofs.Stores.{sets-next, line_length}
+use Rattle.session.proofs.Stores.{sets_next, line_length}
 
 -- ---- the station in Holding fits a byte
 holder_most : (s : ℕ) (t : List Station) → holder_from s t ≤ s + length t
@@ -31,13 +28,13 @@ holder_most s (r ∷ rs) =
     let later = holder_most (s + 1) rs in
     by_test (λ (h : ℕ). h ≤ s + suc (length rs)) (eqb r.head.place HOLDING) (λ _. omega arith) (λ _. omega arith)
 
-pub holder-byte :
+pub holder_byte :
     (n : ℕ) (t : List Station) (x : Step) (stepped : Stepped) →
     length t ≡ 32 →
     stepped ≡ stepped_by t n x →
     stepped.holder < 256
 unfolding stepped_by
-holder-byte n t x stepped e et = rw et (omega (arith, holder_most 1 (after n t x), after_length n t x))
+holder_byte n t x stepped e et = rw et (omega (arith, holder_most 1 (after n t x), after_length n t x))
 
 -- ---- the lines that are left
 -- those from line k on, of a run over `total` lines whose table is then t
@@ -54,25 +51,26 @@ pub record Going (s : List ℕ) (n : ℕ) (first : List Station) (old : List ℕ
   pub bytes : sets out (9 * k) (lines_left s n total t k) ≡ sets old 9 (lines_left s n total first 1)
 
 -- a frame that is no step, as a `let .. else` tells it
-no_step :
-    (n : ℕ) (t : List Station) (f : Frame) (fs : List Frame) → OneOf (0 ∷ 2 ∷ []) (tag_of frame-type f) →
-    step_lines n t (f ∷ fs) ≡ bad_line
+abbrev pub NoStep : Frame → Type 0
+NoStep f = (x : Step) → f ≡ frame.Move x → ⊥
+
+no_step : (n : ℕ) (t : List Station) (f : Frame) (fs : List Frame) → NoStep f → step_lines n t (f ∷ fs) ≡ bad_line
 unfolding step_lines
 no_step n t (frame.Open m) fs h = refl
-no_step n t (frame.Move x) fs h = absurd (miss (0 ∷ 2 ∷ []) 1 tt h)
+no_step n t (frame.Move x) fs h = absurd (h x refl)
 no_step n t frame.Bad fs h = refl
 
 module _ (s : List ℕ) (n total k : ℕ) (t : List Station) (more : k < total) where
   one_more : total - k ≡ suc (total - (k + 1))
   one_more = omega arith
 
-  left-move :
+  left_move :
       (x : Step) → frame_at s (7 * k) ≡ frame.Move x →
       lines_left s n total t k ≡ step_line (stepped_by t n x) ++ lines_left s n total (after n t x) (k + 1)
   unfolding frames_from step_lines
-  left-move x e = rw (one_more, e)
+  left_move x e = rw (one_more, e)
 
-  left_bad : OneOf (0 ∷ 2 ∷ []) (tag_of frame-type (frame_at s (7 * k))) → lines_left s n total t k ≡ bad_line
+  left_bad : NoStep (frame_at s (7 * k)) → lines_left s n total t k ≡ bad_line
   unfolding frames_from
   left_bad h = rw one_more (no_step n t (frame_at s (7 * k)) (frames_from (total - (k + 1)) (k + 1) s) h)
 
@@ -97,26 +95,26 @@ module _
     (s : List ℕ) (n : ℕ) (first : List Station) (old : List ℕ) (total : ℕ) (out : List ℕ) (t : List Station) (k : ℕ)
     (going : Going s n first old total out t k) where
   -- a step's line is written, and the loop goes on
-  step-done :
+  step_done :
       (x : Step) → k < total → frame_at s (7 * k) ≡ frame.Move x →
       Going s n first old total (sets out (9 * k) (step_line (stepped_by t n x))) (after n t x) (k + 1)
   unfolding step_line
-  step-done x more e =
+  step_done x more e =
       let line = step_line (stepped_by t n x) in
       let left = lines_left s n total (after n t x) (k + 1) in
       let nine : length line ≡ 9 = line_length _ _ _ _ in
-      let split : lines_left s n total t k ≡ line ++ left = left-move s n total k t more x e in
+      let split : lines_left s n total t k ≡ line ++ left = left_move s n total k t more x e in
       record {
         low = omega arith;
         high = omega arith;
         size = length-sets out (9 * k) line ∙ going.size;
         stations = after_length n t x ∙ going.stations;
         count = omega (arith, going.count, ap length split, length-append line left);
-        bytes = sets-next line left out (9 * k) (9 * (k + 1)) (omega arith) ∙ rw split at going.bytes;
+        bytes = sets_next line left out (9 * k) (9 * (k + 1)) (omega arith) ∙ rw split at going.bytes;
       }
 
   -- the same, of the values that the loop's calls give
-  pub stepped-done :
+  pub stepped_done :
       (x : Step) (stepped : Stepped) (place due : ℕ) (out' : List ℕ) → k < total → frame_at s (7 * k) ≡ frame.Move x →
       stepped ≡ stepped_by t n x →
       place ≡ shown_of stepped.code stepped.head.place →
@@ -124,12 +122,12 @@ module _
       out' ≡ sets out (9 * k) (line_of stepped.code place due stepped.holder) →
       Going s n first old total out' stepped.table (k + 1)
   unfolding stepped_by step_line
-  stepped-done x stepped place due out' more e et ep ed eo = rw (eo, ep, ed, et) (step-done x more e)
+  stepped_done x stepped place due out' more e et ep ed eo = rw (eo, ep, ed, et) (step_done x more e)
 
   module _ (all : total ≡ lines_in (length s)) (room : 9 * total ≤ length old) where
     -- the loop is left at a frame that is no step
     pub stopped :
-        k < total → OneOf (0 ∷ 2 ∷ []) (tag_of frame-type (frame_at s (7 * k))) →
+        k < total → NoStep (frame_at s (7 * k)) →
         LinesWritten s n first old (sets out (9 * k) bad_line) (9 * k + 9)
     stopped more h =
         let last : lines_left s n total t k ≡ bad_line = left_bad s n total k t more h in

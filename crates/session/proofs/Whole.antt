@@ -8,33 +8,27 @@ use lib.Dec.{ltb}
 use lib.ListN.{length, take, drop, length-append, length-drop}
 use lib.Seq.{sets, sets-eq, length-sets, length-take-le}
 use borrow.Author.Tests.{lt-ltb, le-ltb, ne_eqb}
-use types.Run.{OneOf, miss}
-use denote.Enum.Declared.{tag_of}
 use Rattle.station.specs.declared.Station.{Station}
 use Rattle.station.proofs.Laws.{by_test}
 use Rattle.station.specs.Names.{ACCEPTED, BAD_COUNT}
 use Rattle.station.specs.Stations.{count_ok}
 use Rattle.table.specs.Table.{open_code, opened}
-use Rattle.frames.specs.contracts.Frame.{the_type as frame-type}
 use Rattle.frames.specs.declared.Frame.{Frame}
 use Rattle.frames.specs.declared.Frame.TheVariants as frame
 use Rattle.frames.specs.Frames.{frame_at}
 use Rattle.network.specs.declared.Opened.{Opened}
 use Rattle.network.specs.Network.{opened_for}
 use Rattle.session.specs.Session.{TOO_LONG, INPUT_LIMIT, line_of, bad_line, lines_in, frames_from, session_lines, run_lines, room_for, written, Ran, LinesWritten}
-use Rattle.session.proofs.Stores.{sets-next, line_length}
+use Rattle.session.proofs.Stores.{sets_next, line_length}
 use Rattle.session.proofs.Steps.{lines_left}
 
 -- ---- the room
-room_least : (len : ℕ) → 9 ≤ room_for len
+pub room_least : (len : ℕ) → 9 ≤ room_for len
 unfolding room_for lines_in
 room_least zero = omega arith
 room_least (suc m) =
     rw (ne_eqb (suc m) 0 (λ e. omega arith))
     (by_test (λ (room : ℕ). 9 ≤ room) (ltb INPUT_LIMIT (suc m)) (λ _. omega arith) (λ _. omega arith))
-
-pub room_line : (len room : ℕ) → room_for len ≤ room → 9 ≤ room
-room_line len room h = omega (arith, room_least len)
 
 pub room_lines : (len room : ℕ) → 1 ≤ len → len ≤ INPUT_LIMIT → room_for len ≤ room → 9 * lines_in len ≤ room
 unfolding room_for
@@ -68,14 +62,14 @@ module _ (s old : List ℕ) where
         }
 
     -- a run whose first line is followed by others
-    pub more-lines :
+    pub more_lines :
         (code n r : ℕ) (t : List Station) (first out : List ℕ) →
         run_lines s ≡ line_of code 0 0 0 ++ lines_left s n (lines_in (length s)) t 1 →
         first ≡ sets old 0 (line_of code 0 0 0) →
         length out ≡ length first →
         LinesWritten s n t first out r →
         Ran s old out r
-    more-lines code n r t first out e stores kept lines =
+    more_lines code n r t first out e stores kept lines =
         let line = line_of code 0 0 0 in
         let others = lines_left s n (lines_in (length s)) t 1 in
         let nine : length line ≡ 9 = line_length code 0 0 0 in
@@ -88,7 +82,7 @@ module _ (s old : List ℕ) where
         lines.bytes
         ∙ sym (append_assoc (take 9 first) others (drop r first))
         ∙ rw lines.count (sym (sets-eq others first 9 fits)) in
-        let whole : sets first 9 others ≡ sets old 0 (line ++ others) = rw stores (sets-next line others old 0 9 (omega arith)) in
+        let whole : sets first 9 others ≡ sets old 0 (line ++ others) = rw stores (sets_next line others old 0 9 (omega arith)) in
         record {
           count = rw (all_written, e) (omega arith);
           bytes = behind ∙ whole ∙ sets-eq (line ++ others) old 0 (omega arith) ∙ rw (all_written, e, both);
@@ -112,14 +106,17 @@ first_frame s h =
     ap (λ (left : ℕ). frames_from left 0 s) some
 
 -- a first frame that does not open, as a `let .. else` tells it
-no_open : (f : Frame) (fs : List Frame) → OneOf (1 ∷ 2 ∷ []) (tag_of frame-type f) → session_lines (f ∷ fs) ≡ bad_line
+abbrev pub NoOpening : Frame → Type 0
+NoOpening f = (n : ℕ) → f ≡ frame.Open n → ⊥
+
+no_open : (f : Frame) (fs : List Frame) → NoOpening f → session_lines (f ∷ fs) ≡ bad_line
 unfolding session_lines
-no_open (frame.Open n) fs h = absurd (miss (1 ∷ 2 ∷ []) 0 tt h)
+no_open (frame.Open n) fs h = absurd (h n refl)
 no_open (frame.Move x) fs h = refl
 no_open frame.Bad fs h = refl
 
 pub not_opened :
-    (s : List ℕ) → length s ≤ INPUT_LIMIT → OneOf (1 ∷ 2 ∷ []) (tag_of frame-type (frame_at s 0)) → run_lines s ≡ bad_line
+    (s : List ℕ) → length s ≤ INPUT_LIMIT → NoOpening (frame_at s 0) → run_lines s ≡ bad_line
 unfolding session_lines frames_from lines_in
 not_opened [] h other = within [] h
 not_opened (x ∷ xs) h other =

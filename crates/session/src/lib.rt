@@ -1,5 +1,6 @@
 // The run: a list of frames in, a line out for each, over a table that is lent to the crate table's own functions.
 #![tactic(auto)]
+
 ghost use Rattle.std.specs.Prelude.{◌≡◌, ◌+◌, ◌*◌, ◌≤◌, length};
 ghost use Rattle.std.proofs.lemmas.List.Edits.{sets};
 ghost use Rattle.session.specs.Session.{shown_of, pair_line, line_of, lines_in, RoomFor, LinesWritten, Ran};
@@ -21,6 +22,7 @@ pub const LINE_BYTES: usize = 9;
 pub const OUTPUT_MOST: usize = (INPUT_LIMIT + 6) / frames::FRAME_BYTES * LINE_BYTES;
 
 // What a line shows of the named station: zeros where a step names none.
+#[tactic(auto, unfolding(crate::specs::Session::shown_of))]
 fn shown(code: u8, value: u8) -> u8
     ensures { result ≡ shown_of code value }
 {
@@ -30,6 +32,7 @@ fn shown(code: u8, value: u8) -> u8
     value
 }
 
+#[tactic(auto, unfolding(crate::specs::Session::pair_line))]
 fn put_pair(output: &mut [u8], at: usize, byte: u8)
     requires { at + 2 ≤ length output.old }
     ensures { output.new ≡ sets output.old at (pair_line byte) }
@@ -39,6 +42,7 @@ fn put_pair(output: &mut [u8], at: usize, byte: u8)
     output[at + 1] = pair.low;
 }
 
+#[tactic(auto, using(crate::proofs::Stores::line_stored))]
 fn put_line(output: &mut [u8], at: usize, code: u8, place: u8, due: u8, holder: u8)
     requires { at + 9 ≤ length output.old }
     ensures { output.new ≡ sets output.old at (line_of code place due holder) }
@@ -51,6 +55,7 @@ fn put_line(output: &mut [u8], at: usize, code: u8, place: u8, due: u8, holder: 
 }
 
 // The lines that an input of so many bytes starts.
+#[tactic(auto, unfolding(crate::specs::Session::lines_in))]
 fn lines_in(len: usize) -> usize
     requires { len ≤ 65536 }
     ensures { result ≡ lines_in len }
@@ -59,6 +64,7 @@ fn lines_in(len: usize) -> usize
 }
 
 // The bytes of output that a run of so many bytes of input may need.
+#[tactic(auto, unfolding(crate::specs::Session::room_for, crate::specs::Session::lines_in))]
 pub fn room_for(len: usize) -> usize
     ensures { RoomFor len OUTPUT_MOST result }
 {
@@ -72,6 +78,7 @@ pub fn room_for(len: usize) -> usize
 }
 
 // The lines after the first, written behind it. Gives the index past the last.
+#[tactic(auto, unfolding(crate::specs::Session::lines_in))]
 fn put_steps(input: &[u8], n: usize, opened: [Station; STATIONS], output: &mut [u8]) -> usize
     requires { (1 ≤ length input.now) × (length input.now ≤ 65536) × (9 * lines_in (length input.now) ≤ length output.old) }
     ensures { LinesWritten input.now n opened output.old output.new result }
@@ -104,6 +111,7 @@ fn put_steps(input: &[u8], n: usize, opened: [Station; STATIONS], output: &mut [
 }
 
 // The whole run: what it writes at the start of the output, and how many bytes. Into an output with less room than `room_for` asks it writes nothing.
+#[tactic(auto, using(crate::proofs::Whole::room_least))]
 pub fn run(input: &[u8], output: &mut [u8]) -> usize
     ensures { Ran input.now output.old output.new result }
 {
