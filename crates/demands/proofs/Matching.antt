@@ -59,8 +59,8 @@ module _ {n : ℕ} (C : Count n) where
       → NumbersLeft n σ ls → Follows n t (steps_of ls) τ
   unfolding steps_of NumbersLeft accepted_of table_after
   run_follows R m stop h = (refl, m)
-  run_follows R m (move {l = l} e Q) h =
-      move_on (fine R m l e (h.0, tt)) (λ u W. run_follows (run_append R (move e stop)) W Q h.1)
+  run_follows {ks = ks} {t = t} R m (move {l = l} e Q) h =
+      move_on (fine R m l e (h.0, tt)) (λ u W. run_follows {ks = ks ++ (l ∷ [])} {t = u} (run_append R (move e stop)) W Q h.1)
 
   -- ---- a step's own transitions
   word_step : (x : Step) → steps_of (word x) ≡ x ∷ []
