@@ -34,12 +34,12 @@ asks : Run 2 initial (word (Ask 1)) asked
 unfolding can does put
 asks = move refl (move refl (move refl stop))
 
--- takes-accepted: the program can take Ask 1 at the start
+-- takes_accepted: the program can take Ask 1 at the start
 refuses_all_not : (code : ℕ) → code ≢ ACCEPTED → Demand2 (refuses_all code) → ⊥
 unfolding accepted_of words
 refuses_all_not code refused D = refused ((D 2 two).takes_accepted [] initial stop (Ask 1) (record { next = asked; run = asks; number = omega arith }))
 
--- accepted-takes: the program cannot take Enter 1 at the start
+-- accepted_takes: the program cannot take Enter 1 at the start
 says_accepted_not : Demand2 says_accepted → ⊥
 unfolding accepted_of words can
 says_accepted_not D = false≢true (begun ((D 2 two).accepted_takes [] initial stop (Enter 1) refl).run).0
@@ -51,7 +51,7 @@ does_nothing_not D =
     let shown = ((D 2 two).lands [] initial stop (Ask 1) refl asked asks).heads 1 (record { low = omega arith; high = omega arith }) in
     absurd (omega (arith, ap (λ (h : Head). h.place) shown))
 
--- accepted-takes: after Ask 1 the program cannot take it again
+-- accepted_takes: after Ask 1 the program cannot take it again
 works_once_not : Demand2 works_once → ⊥
 unfolding computed can does put all_idle words
 works_once_not D = false≢true (begun ((D 2 two).accepted_takes (Ask 1 ∷ []) asked asks (Ask 1) refl).run).0

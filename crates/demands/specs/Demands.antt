@@ -6,7 +6,7 @@ use Rattle.station.specs.declared.Step.{Step}
 use Rattle.station.specs.declared.Step.TheVariants.{Ask, Send, Enter, Leave, Give, TakeRequest, TakeAnswer}
 use Rattle.station.specs.Names.{IDLE, SENDING, WAITING, HOLDING, GIVING, LAST_NUMBER, ACCEPTED, NOT_WELL_FORMED, AT_ODDS}
 use Rattle.station.specs.Stations.{count_ok}
-use Rattle.table.specs.Table.{head_in, cells_in, opened, well_formed, answer, after}
+use Rattle.table.specs.Table.{head_in, cells_in, opened, well_formed, answer}
 use Rattle.engines.specs.Engines.{Engine, reached, accepted_of, entries}
 use Rattle.figure1.specs.Assertions.{bit, In}
 use Rattle.figure1.specs.Figure1.{Location, m1, m2, m31, m32, m4, m5, m6, m71, m72, Node, State, initial, Label, M, q1, r1, does, Run}

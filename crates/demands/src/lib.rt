@@ -1,5 +1,6 @@
 // What is claimed of the rules that the contract of `table::step` cites. No code runs: specs/ has each claim, and `hold` is proved where all of them are.
 #![tactic(auto)]
+
 ghost use Rattle.table.specs.Kept.{FormKept};
 ghost use Rattle.frames.specs.Frames.{ReadsBack};
 ghost use Rattle.engines.specs.Engines.{ours};

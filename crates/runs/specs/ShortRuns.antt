@@ -11,7 +11,7 @@ use Rattle.engines.specs.Engines.{ours, table_after, reached, accepted_of, entri
 abbrev pub tie : List Step
 tie = Ask 1 ∷ Ask 2 ∷ Send 1 ∷ Send 1 ∷ Send 2 ∷ Send 2 ∷ []
 
--- ---- one-entry's bound is met: in the tie station 1 takes 2's request, then enters once before 2 does
+-- ---- one_entry's bound is met: in the tie station 1 takes 2's request, then enters once before 2 does
 -- the table in which 1 has just taken 2's request
 abbrev pub taking : List Station
 taking = after 2 (reached ours 2 tie) (TakeRequest 1 2)

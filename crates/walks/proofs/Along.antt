@@ -3,7 +3,7 @@
 --     Scan             a test f of a list that puts the test g to each element, with its number
 --     scan_on, scan_end    such a test in a loop, at an element whose own test is known, and past the last one
 --     scan_at, scan_set, scan_all      what it says of one element; with another element put there; and of a list of one element over and over
-use mathlib.Core.Path.{◌≡◌, refl, sym, ap, ◌∙◌}
+use mathlib.Core.Path.{◌≡◌, sym, ap, ◌∙◌}
 use Prim.Native.Nat.{ℕ, zero, suc, ◌+◌, ◌≤◌, ◌<◌}
 use native.Mathlib.Omega.{arith}
 use native.Mathlib.Nat.{add-zero}

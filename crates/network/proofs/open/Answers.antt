@@ -1,5 +1,5 @@
 -- Records as opening writes them are an opened table, and stay one whatever the answer is.
-use Rattle.std.proofs.Common.{◌≡◌, ℕ, nat_eq, List, replicate, refl, ap, sym, ◌∙◌}
+use Rattle.std.proofs.Common.{◌≡◌, ℕ, nat_eq, List, replicate, refl, ap, ◌∙◌}
 use Rattle.station.specs.declared.Station.{Station}
 use Rattle.station.specs.Names.{STATIONS, ACCEPTED}
 use Rattle.station.proofs.Laws.{by_test}

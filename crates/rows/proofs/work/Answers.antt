@@ -1,5 +1,5 @@
 -- What the rows ask for: the count and the stations are in range.
-use Rattle.std.proofs.Common.{arith, sym, ◌∙◌}
+use Rattle.std.proofs.Common.{arith}
 use Rattle.station.proofs.Laws.{count_range, take_range}
 use Rattle.rows.proofs.work.Goals as goal
 

@@ -1,7 +1,7 @@
 -- A well-formed table has a record for each index below 32; the step between the right two stations is the step.
 use Rattle.std.proofs.Common.{rules, ◌≡◌, ◌<◌, length, arith, sym, ap, ◌∙◌}
 use Rattle.station.specs.Names.{STATIONS}
-use Rattle.station.specs.Stations.{named_by, peer_of, index_of}
+use Rattle.station.specs.Stations.{peer_of, index_of}
 use Rattle.station.proofs.Laws.{index_below}
 use Rattle.table.specs.Table.{head_in}
 use Rattle.table.proofs.Answers.{formed_length, acted, failed}
