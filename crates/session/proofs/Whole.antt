@@ -162,7 +162,3 @@ module _
 
   pub accepted : new.code ≡ ACCEPTED → run_lines s ≡ line_of new.code 0 0 0 ++ lines_left s n (lines_in (length s)) new.table 1
   accepted h = rw table_of (opening_lines ∙ by_acceptance new.code _ (count_ok n) code_of h)
-
--- what a run writes lies in its output
-pub written_fits : (s old out : List ℕ) (r : ℕ) → Ran s old out r → r ≤ length out
-written_fits s old out r ran = omega (arith, ran.count, simp length-append at (ap length ran.bytes))
