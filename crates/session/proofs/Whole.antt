@@ -30,6 +30,9 @@ room_least (suc m) =
     rw (ne_eqb (suc m) 0 (λ e. omega arith))
     (by_test (λ (room : ℕ). 9 ≤ room) (ltb INPUT_LIMIT (suc m)) (λ _. omega arith) (λ _. omega arith))
 
+pub room_line : (len room : ℕ) → room_for len ≤ room → 9 ≤ room
+room_line len room h = omega (arith, room_least len)
+
 pub room_lines : (len room : ℕ) → 1 ≤ len → len ≤ INPUT_LIMIT → room_for len ≤ room → 9 * lines_in len ≤ room
 unfolding room_for
 room_lines len room some short h =
@@ -162,3 +165,7 @@ module _
 
   pub accepted : new.code ≡ ACCEPTED → run_lines s ≡ line_of new.code 0 0 0 ++ lines_left s n (lines_in (length s)) new.table 1
   accepted h = rw table_of (opening_lines ∙ by_acceptance new.code _ (count_ok n) code_of h)
+
+-- what a run writes lies in its output
+pub written_fits : (s old out : List ℕ) (r : ℕ) → Ran s old out r → r ≤ length out
+written_fits s old out r ran = omega (arith, ran.count, simp length-append at (ap length ran.bytes))
