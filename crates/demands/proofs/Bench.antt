@@ -1,19 +1,20 @@
 -- No line of a run has code 2 or 8: its tables are reached, and there the rules never answer so.
-use mathlib.Core.Path.{◌≡◌, refl, sym, ap, ◌∙◌}
+use mathlib.Core.Path.{◌≡◌, sym, ap, ◌∙◌}
 use mathlib.Core.Logic.{◌≢◌}
 use mathlib.Core.Bool.{true}
 use mathlib.Core.List.{List, [], ◌∷◌, ◌++◌}
 use Prim.Native.Nat.{ℕ, zero, suc, ◌*◌, ◌<◌}
 use native.Mathlib.Omega.{arith}
+use Rattle.std.specs.Prelude.{Option, Some, None}
 use lib.Dec.{ltb}
-use lib.ListN.{length, drop}
+use lib.ListN.{length}
+use lib.Seq.{drop-nil}
 use Rattle.station.specs.declared.Step.{Step}
 use Rattle.station.specs.Names.{ACCEPTED, BAD_COUNT, NOT_WELL_FORMED, AT_ODDS}
 use Rattle.station.specs.Stations.{count_ok}
-use Rattle.station.proofs.Laws.{by_test}
+use Rattle.std.proofs.lemmas.Bool.{cond_both}
 use Rattle.table.specs.Table.{opened, answer, after}
 use Rattle.table.proofs.Answers.{answer_byte}
-use Rattle.frames.specs.declared.Byte.TheVariants as byte
 use Rattle.frames.specs.declared.Frame.{Frame}
 use Rattle.frames.specs.declared.Frame.TheVariants as frame
 use Rattle.frames.specs.Frames.{pair_of}
@@ -31,7 +32,7 @@ unfolding pair_line
 same_byte v w a b e =
     let high : (pair_of v).high ≡ (pair_of w).high = cc in
     let low : (pair_of v).low ≡ (pair_of w).low = cc in
-    let read : byte.Value v ≡ byte.Value w = sym (reads_back.byte_back v a) ∙ rw (high, low) (reads_back.byte_back w b) in
+    let read : Some v ≡ Some w = sym (reads_back.byte_back v a) ∙ rw (high, low) (reads_back.byte_back w b) in
     cc
 
 -- ---- line by line
@@ -47,13 +48,9 @@ record Fair (code : ℕ) : Type 0 where
   not_2 : code ≢ NOT_WELL_FORMED
   not_8 : code ≢ AT_ODDS
 
-none_left : (n : ℕ) → drop {A = ℕ} n [] ≡ []
-none_left zero = refl
-none_left (suc n) = refl
-
 never_none : Never []
 unfolding pair_line
-never_none k = rw (none_left (9 * k)) (λ e. omega (arith, ap length e), λ e. omega (arith, ap length e))
+never_none k = rw drop-nil (λ e. omega (arith, ap length e), λ e. omega (arith, ap length e))
 
 never_line : (code place due held : ℕ) (rest : List ℕ) → Fair code → Never rest → Never (line_of code place due held ++ rest)
 unfolding line_of pair_line
@@ -67,25 +64,25 @@ unfolding line_of pair_line
 never_alone code f = never_line code 0 0 0 [] f never_none
 
 -- ---- the run
-never_steps : (n : ℕ) → count_ok n ≡ true → (xs : List Step) (fs : List Frame) → Never (step_lines n (reached ours n xs) fs)
+never_steps : (n : ℕ) → count_ok n ≡ true → (xs : List Step) (fs : List (Option Frame)) → Never (step_lines n (reached ours n xs) fs)
 unfolding step_lines step_line stepped_by table_after
 never_steps n ok xs [] = never_none
-never_steps n ok xs (frame.Move x ∷ fs) =
+never_steps n ok xs (Some (frame.Move x) ∷ fs) =
     let t = reached ours n xs in
     let (two, eight) = (demand_2 n ok).never_2_or_8 xs x in
     let next : reached ours n (xs ++ (x ∷ [])) ≡ after n t x = after_append ours n opened xs (x ∷ []) in
     never_line (answer n t x) _ _ _ _ (record { byte = answer_byte n t x; not_2 = two; not_8 = eight }) (rw next at (never_steps n ok (xs ++ (x ∷ [])) fs))
-never_steps n ok xs (frame.Open m ∷ fs) = never_alone BAD_FRAME (omega arith)
-never_steps n ok xs (frame.Bad ∷ fs) = never_alone BAD_FRAME (omega arith)
+never_steps n ok xs (Some (frame.Open m) ∷ fs) = never_alone BAD_FRAME (omega arith)
+never_steps n ok xs (None ∷ fs) = never_alone BAD_FRAME (omega arith)
 
-never_session : (fs : List Frame) → Never (session_lines fs)
+never_session : (fs : List (Option Frame)) → Never (session_lines fs)
 unfolding session_lines table_after
 never_session [] = never_alone BAD_FRAME (omega arith)
-never_session (frame.Open n ∷ fs) =
-    by_test Never (count_ok n) (λ ok. never_line ACCEPTED 0 0 0 _ (omega arith) (never_steps n ok [] fs)) (λ _. never_alone BAD_COUNT (omega arith))
-never_session (frame.Move x ∷ fs) = never_alone BAD_FRAME (omega arith)
-never_session (frame.Bad ∷ fs) = never_alone BAD_FRAME (omega arith)
+never_session (Some (frame.Open n) ∷ fs) =
+    cond_both (count_ok n) _ _ Never (λ ok. never_line ACCEPTED 0 0 0 _ (omega arith) (never_steps n ok [] fs)) (λ _. never_alone BAD_COUNT (omega arith))
+never_session (Some (frame.Move x) ∷ fs) = never_alone BAD_FRAME (omega arith)
+never_session (None ∷ fs) = never_alone BAD_FRAME (omega arith)
 
 pub never_from_the_bench : NeverFromTheBench
 unfolding run_lines
-never_from_the_bench s = by_test Never (ltb INPUT_LIMIT (length s)) (λ _. never_alone TOO_LONG (omega arith)) (λ _. never_session (frames_from (lines_in (length s)) 0 s))
+never_from_the_bench s = cond_both (ltb INPUT_LIMIT (length s)) _ _ Never (λ _. never_alone TOO_LONG (omega arith)) (λ _. never_session (frames_from (lines_in (length s)) 0 s))

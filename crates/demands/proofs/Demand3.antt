@@ -1,16 +1,18 @@
 -- Demand 3 follows from demand 2, whatever the engine: its tables show the program's states, and there the paper's assertions hold.
 use mathlib.Core.Path.{◌≡◌, refl, sym, ◌∙◌, ap}
-use mathlib.Core.Logic.{◌≢◌}
-use mathlib.Core.Bool.{Bool, true, false, cond, not, ◌&&◌}
-use mathlib.Core.List.{List, [], ◌∷◌, ◌++◌}
+use mathlib.Core.Logic.{inl, inr}
+use mathlib.Core.Bool.{Bool, true, false, not, ◌&&◌}
+use mathlib.Core.List.{List, ◌∷◌, ◌++◌}
 use Prim.Native.Nat.{ℕ, ◌+◌, ◌-◌, ◌≤◌}
 use native.Mathlib.Omega.{arith}
-use lib.Dec.{eqb, leb, ltb}
+use lib.Dec.{eqb, ltb}
 use lib.ListN.{length}
+use Rattle.std.proofs.lemmas.Bool.{cases_Bool}
+use Rattle.std.proofs.lemmas.Bool.Decides.{nat_tests}
 use Rattle.station.specs.declared.Head.{Head}
 use Rattle.station.specs.declared.Station.{Station}
 use Rattle.station.specs.declared.Step.TheVariants.{TakeRequest}
-use Rattle.station.specs.Names.{IDLE, SENDING, WAITING, HOLDING, GIVING}
+use Rattle.station.specs.Names.{HOLDING}
 use Rattle.table.specs.Table.{head_in, cells_in, opened}
 use Rattle.figure1.specs.Figure1.{Location, m1, m2, m31, m32, m4, m5, m6, m71, m72, Node, State}
 use Rattle.figure1.specs.Assertions.{bit, In, entered, sending, is, weight}
@@ -22,19 +24,15 @@ use Rattle.demands.proofs.Lists.{run_after, begun, accepted_next, entries_words}
 use Rattle.demands.proofs.Demand2.{demand_2}
 
 -- ---- at most one station holds the turn
-neither : (b : Bool) (v w : ℕ) → cond b v w ≡ HOLDING → v ≢ HOLDING → w ≢ HOLDING → ⊥
-neither true v w e f g = f e
-neither false v w e f g = g e
-
 holding_entered : (n : ℕ) (l : Location) (a : Node) → place_at n l a ≡ HOLDING → entered l ≡ true
 holding_entered n m1 a h = absurd (omega arith)
 holding_entered n m2 a h = absurd (omega arith)
-holding_entered n m31 a h = absurd (neither (leb a.p n) SENDING WAITING h (λ e. omega arith) (λ e. omega arith))
+holding_entered n m31 a h = grind (arith, nat_tests)
 holding_entered n m32 a h = absurd (omega arith)
 holding_entered n m4 a h = absurd (omega arith)
 holding_entered n m5 a h = refl
 holding_entered n m6 a h = refl
-holding_entered n m71 a h = absurd (neither (leb a.p n) GIVING IDLE h (λ e. omega arith) (λ e. omega arith))
+holding_entered n m71 a h = grind (arith, nat_tests)
 holding_entered n m72 a h = absurd (omega arith)
 
 holder_entered : {n : ℕ} {t : List Station} {σ : State} → Shows n t σ → (s : ℕ) → In n s → (head_in t (s - 1)).place ≡ HOLDING
@@ -44,11 +42,7 @@ holder_entered {n = n} {σ = σ} S s H e =
 
 -- ---- one errand of a pair at most
 requests_shown : (r : ℕ) → length (request_queue r) ≡ bit (not (eqb r 0))
-requests_shown r = go (eqb r 0)
-  where
-    go : (b : Bool) → length (cond b [] (r ∷ [])) ≡ bit (not b)
-    go true = refl
-    go false = refl
+requests_shown r = elim (cases_Bool (eqb r 0)) [ inl e ↦ rw e | inr e ↦ rw e ]
 
 answers_shown : (b : Bool) → length (answer_queue b) ≡ bit b
 answers_shown true = refl
@@ -64,10 +58,8 @@ weight_shown {t = t} {σ = σ} S i j H K =
 not_both : (b : Bool) (l : Location) → bit (sending l && b) + bit (is l m4) ≤ 1
 not_both b m1 = omega arith
 not_both b m2 = omega arith
-not_both true m31 = omega arith
-not_both false m31 = omega arith
-not_both true m32 = omega arith
-not_both false m32 = omega arith
+not_both b m31 = grind (arith, nat_tests)
+not_both b m32 = grind (arith, nat_tests)
 not_both b m4 = omega arith
 not_both b m5 = omega arith
 not_both b m6 = omega arith

@@ -1,11 +1,10 @@
 -- Lists of steps as lists of transitions: taken apart, and the entries in them.
 use mathlib.Core.Path.{◌≡◌, refl, sym}
-use mathlib.Core.Bool.{Bool, true, false, cond, ◌&&◌}
+use mathlib.Core.Bool.{Bool, true, false, cond, ◌&&◌, and-true, and-false}
 use mathlib.Core.List.{List, [], ◌∷◌, ◌++◌, append_assoc}
 use Prim.Native.Nat.{ℕ, ◌+◌}
 use native.Mathlib.Nat.{zero-add}
 use native.Mathlib.Omega.{arith}
-use lib.Dec.{eqb}
 use Rattle.station.specs.declared.Station.{Station}
 use Rattle.station.specs.declared.Step.{Step}
 use Rattle.station.specs.declared.Step.TheVariants.{Ask, Send, Enter, Leave, Give, TakeRequest, TakeAnswer}
@@ -31,21 +30,13 @@ pub begun : {n : ℕ} {σ τ : State} {l : Label} {ls : List Label} → Run n σ
 begun (move e R) = (e, R)
 
 -- a step enters where its transitions do
-not_m4 : (b : Bool) → bit (b && false) ≡ 0
-not_m4 true = refl
-not_m4 false = refl
-
-at_m4 : (b : Bool) → bit (b && true) ≡ bit b
-at_m4 true = refl
-at_m4 false = refl
-
 word_entries : (y : ℕ) (x : Step) (ls : List Label) → claims.entries y (word x ++ ls) ≡ bit (enters y x) + claims.entries y ls
 unfolding claims.entries
-word_entries y (Ask s) ls = omega (arith, not_m4 (eqb s y))
-word_entries y (Send s) ls = omega (arith, not_m4 (eqb s y))
-word_entries y (Enter s) ls = omega (arith, at_m4 (eqb s y))
-word_entries y (Leave s) ls = omega (arith, not_m4 (eqb s y))
-word_entries y (Give s) ls = omega (arith, not_m4 (eqb s y))
+word_entries y (Ask s) ls = rw and-false (omega arith)
+word_entries y (Send s) ls = rw and-false (omega arith)
+word_entries y (Enter s) ls = rw and-true
+word_entries y (Leave s) ls = rw and-false (omega arith)
+word_entries y (Give s) ls = rw and-false (omega arith)
 word_entries y (TakeRequest s t) ls = refl
 word_entries y (TakeAnswer s t) ls = refl
 

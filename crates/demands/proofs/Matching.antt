@@ -1,12 +1,12 @@
 -- Every run of the program, matched by accepted steps: one transition at a time, and a step's own transitions.
 use mathlib.Core.Path.{◌≡◌, refl, ap}
-use mathlib.Core.Bool.{Bool, true, false, cond}
+use mathlib.Core.Bool.{true}
 use mathlib.Core.List.{List, [], ◌∷◌, ◌++◌}
 use Prim.Native.Nat.{ℕ}
 use native.Mathlib.Omega.{arith}
-use lib.Dec.{eqb}
 use lib.ListN.{length}
-use borrow.Author.Tests.{eqb-true}
+use mathlib.Core.Logic.{inl, inr}
+use Rattle.std.proofs.lemmas.Bool.{cases_eq, eqb-true, ne_eqb}
 use Rattle.station.specs.declared.Station.{Station}
 use Rattle.station.specs.declared.Step.{Step}
 use Rattle.station.specs.declared.Step.TheVariants.{Ask, Send, Enter, Leave, Give, TakeRequest, TakeAnswer}
@@ -85,11 +85,10 @@ module _ {n : ℕ} (C : Count n) where
 
   one_accepted : (t : List Station) (x : Step) → accepted_of ours n t (x ∷ []) ≡ x ∷ [] → answer n t x ≡ ACCEPTED
   unfolding accepted_of
-  one_accepted t x e = go (eqb (answer n t x) ACCEPTED) refl e
-    where
-      go : (b : Bool) → eqb (answer n t x) ACCEPTED ≡ b → cond b (x ∷ []) [] ≡ x ∷ [] → answer n t x ≡ ACCEPTED
-      go true z _ = eqb-true (answer n t x) ACCEPTED z
-      go false z y = absurd (omega (arith, ap length y))
+  one_accepted t x e = elim (cases_eq (answer n t x) ACCEPTED) [
+    | inl z ↦ z
+    | inr d ↦ absurd (omega (arith, ap length (rw (ne_eqb (answer n t x) ACCEPTED d) at e)))
+  ]
 
   pub word_works : {ls : List Label} {σ τ : State} {t : List Station} → Run n initial ls σ → Mirrors n t σ → (x : Step) → Run n σ (word x) τ
       → NumberLeft σ x → Works n t x τ

@@ -9,11 +9,10 @@ use native.Mathlib.Decide.{ℕ_discrete}
 use lib.ListN.{length-replicate, get_or-replicate}
 use Rattle.station.specs.declared.Cells.{Cells}
 use Rattle.station.specs.declared.Station.{Station}
-use Rattle.rows.specs.declared.Outcome.{Outcome}
 use Rattle.station.specs.declared.Head.{Head}
 use Rattle.station.specs.Names.{STATIONS, ACCEPTED}
 use Rattle.station.proofs.Laws.{Count, count_ok_within}
-use Rattle.rows.specs.Rows.{outcome_of}
+use Rattle.rows.specs.Rows.{Outcome, outcome_of}
 use Rattle.form.specs.Form.{new_cells, new_station}
 use Rattle.table.specs.Table.{no_station, head_in, cells_in, opened, well_formed, landed}
 use Rattle.table.proofs.Kept.{form_kept}

@@ -1,13 +1,12 @@
 -- What the slots of a cell tell of the queues that they stand for, and the other way.
 use mathlib.Core.Path.{◌≡◌, refl}
-use mathlib.Core.Logic.{◌≢◌}
-use mathlib.Core.Bool.{Bool, true, false, cond}
+use mathlib.Core.Logic.{◌≢◌, inl, inr}
+use mathlib.Core.Bool.{Bool, true, false}
 use mathlib.Core.List.{[], ◌∷◌}
 use Prim.Native.Nat.{ℕ, ◌+◌, ◌<◌}
 use native.Mathlib.Omega.{arith}
-use lib.Dec.{eqb}
 use lib.ListN.{length}
-use borrow.Author.Tests.{eqb-true, eqb-false}
+use Rattle.std.proofs.lemmas.Bool.{cases_eq, eq-eqb, ne_eqb}
 use Rattle.station.specs.declared.Cells.{Cells}
 use Rattle.form.specs.Form.{new_cells}
 use Rattle.figure1.specs.Assertions.{bit}
@@ -15,18 +14,10 @@ use Rattle.demands.specs.Demands.{request_queue, answer_queue}
 
 module _ (r : ℕ) where
   pub no_request : length (request_queue r) ≡ 0 → r ≡ 0
-  no_request e = go (eqb r 0) refl e
-    where
-      go : (b : Bool) → eqb r 0 ≡ b → length (cond b [] (r ∷ [])) ≡ 0 → r ≡ 0
-      go true z _ = eqb-true r 0 z
-      go false z y = absurd (omega arith)
+  no_request h = elim (cases_eq r 0) [ inl e ↦ e | inr d ↦ absurd (omega (arith, rw (ne_eqb r 0 d) at h)) ]
 
   pub a_request : 0 < length (request_queue r) → (r ≢ 0) × (request_queue r ≡ r ∷ [])
-  a_request h = go (eqb r 0) refl h
-    where
-      go : (b : Bool) → eqb r 0 ≡ b → 0 < length (cond b [] (r ∷ [])) → (r ≢ 0) × (cond b [] (r ∷ []) ≡ r ∷ [])
-      go true z k = absurd (omega arith)
-      go false z k = (eqb-false r 0 z, refl)
+  a_request h = elim (cases_eq r 0) [ inl e ↦ absurd (omega (arith, rw (eq-eqb r 0 e) at h)) | inr d ↦ (d, rw (ne_eqb r 0 d)) ]
 
 pub no_answer : (b : Bool) → length (answer_queue b) ≡ 0 → b ≡ false
 no_answer true e = absurd (omega arith)

@@ -1,13 +1,13 @@
 -- Each row of the rules at a head that shows a node: where the program can take the statement, the head afterwards shows the node after it.
 use mathlib.Core.Path.{◌≡◌, refl, ap, ◌∙◌}
-use mathlib.Core.Logic.{◌≢◌}
-use mathlib.Core.Bool.{Bool, true, false, cond, not, ◌&&◌, ◌||◌}
+use mathlib.Core.Logic.{◌≢◌, inl, inr}
+use mathlib.Core.Bool.{true, false, cond, ◌&&◌, ◌||◌}
 use Prim.Native.Nat.{ℕ, suc, ◌+◌, ◌≤◌, ◌<◌}
 use native.Mathlib.Omega.{arith}
-use native.Mathlib.Decide.{ℕ_discrete}
 use native.Mathlib.Numerals.{add-one}
 use lib.Dec.{eqb, leb, ltb}
-use borrow.Author.Tests.{eq-eqb, ne_eqb, le-leb, le-ltb}
+use Rattle.std.proofs.lemmas.Bool.{cases_Bool, eq-eqb, ne_eqb, le-leb}
+use Rattle.std.proofs.lemmas.Bool.Decides.{nat_tests}
 use Rattle.station.specs.declared.Cells.{Cells}
 use Rattle.station.specs.declared.Head.{Head}
 use Rattle.station.specs.Names.{IDLE, SENDING, WAITING, GIVING, LAST_NUMBER, ACCEPTED}
@@ -55,43 +55,22 @@ module _ (n : ℕ) where
   unfolding is_asking
   asking_shown m1 a = refl
   asking_shown m2 a = refl
-  asking_shown m31 a = go (leb a.p n)
-    where
-      go : (b : Bool) → is_asking (cond b SENDING WAITING) ≡ true
-      go true = refl
-      go false = refl
+  asking_shown m31 a = grind (arith, nat_tests)
   asking_shown m32 a = refl
   asking_shown m4 a = refl
   asking_shown m5 a = refl
   asking_shown m6 a = refl
-  asking_shown m71 a = go (leb a.p n)
-    where
-      go : (b : Bool) → is_asking (cond b GIVING IDLE) ≡ false
-      go true = refl
-      go false = refl
+  asking_shown m71 a = grind (arith, nat_tests)
   asking_shown m72 a = refl
 
   before : (r t o s : ℕ) → (ltb r o || (eqb r o && ltb t s)) ≡ goes_first r t o s
   unfolding goes_first
-  before r t o s = elim (ℕ_discrete r o) [
-    | yes e ↦ rw (e, le-ltb o o (omega arith), eq-eqb o o refl)
-    | no d ↦ rw (ne_eqb r o d) (go (ltb r o))
-  ]
-    where
-      go : (b : Bool) → (b || false) ≡ b
-      go true = refl
-      go false = refl
+  before r t o s = grind (arith, nat_tests)
 
   pub grants_shown : (a : Node) → a.rcs ≡ asking a.at → (r t s : ℕ)
       → grants s t r a ≡ answers_now r t (place_at n a.at a) a.osn s
   unfolding answers_now
-  grants_shown a e r t s = rw (asking_shown a.at a, ← e, before r t a.osn s) (go a.rcs (goes_first r t a.osn s))
-    where
-      go : (b f : Bool) → (f || not b) ≡ cond b f true
-      go true true = refl
-      go true false = refl
-      go false true = refl
-      go false false = refl
+  grants_shown a e r t s = rw (asking_shown a.at a, ← e, before r t a.osn s) (grind (arith, nat_tests))
 
   -- ---- the rows
   module _ (a : Node) (c d : Cells) where
@@ -102,11 +81,7 @@ module _ (n : ℕ) where
     onward_shown : (here then : ℕ)
         → onward n (kept here a.p) then ≡ kept (cond (leb (a.p + 1) n) here then) (cond (leb (a.p + 1) n) (a.p + 1) 1)
     unfolding onward
-    onward_shown here then = rw add-one (go (leb (suc a.p) n))
-      where
-        go : (b : Bool) → cond b (kept here (suc a.p)) (kept then 1) ≡ kept (cond b here then) (cond b (suc a.p) 1)
-        go true = refl
-        go false = refl
+    onward_shown here then = rw add-one (elim (cases_Bool (leb (suc a.p) n)) [ inl e ↦ rw e | inr e ↦ rw e ])
 
     pub ask_row : a.at ≡ m2 → a.hsn < LAST_NUMBER → 1 ≤ n → ask_rule n (head_shown n a) c d ≡ outcome_of ACCEPTED (head_shown n (asked n a)) c d
     unfolding ask_rule

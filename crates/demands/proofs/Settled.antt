@@ -1,7 +1,7 @@
 -- States between steps: no node stands before a loop test or inside Ask or Leave, and no number is above the last.
 use mathlib.Core.Path.{◌≡◌, refl, sym, ap, ◌∙◌}
 use mathlib.Core.Logic.{◌≢◌}
-use mathlib.Core.Bool.{Bool, true, false, cond, ◌&&◌}
+use mathlib.Core.Bool.{true, cond, ◌&&◌}
 use mathlib.Core.List.{List, [], ◌∷◌, ◌++◌}
 use Prim.Native.Nat.{ℕ, ◌≤◌, ◌<◌}
 use native.Mathlib.Omega.{arith}
@@ -12,7 +12,8 @@ use borrow.Author.Tests.{eq-eqb}
 use Rattle.station.specs.declared.Step.{Step}
 use Rattle.station.specs.declared.Step.TheVariants.{TakeRequest, TakeAnswer}
 use Rattle.station.specs.Names.{IDLE, SENDING, WAITING, HOLDING, LAST_NUMBER}
-use Rattle.station.proofs.Laws.{by_test}
+use Rattle.std.proofs.lemmas.Bool.{cond_both}
+use Rattle.std.proofs.lemmas.Bool.Decides.{nat_tests}
 use Rattle.figure1.specs.Figure1.{Location, m1, m31, m32, m4, m5, m71, m72, Node, State, initial, Label, M, q1, r1, Run, stop, move, can, does, put, first, main, number, passes, some, is_node, at≔, rd≔, raised, replied, grants}
 use Rattle.figure1.specs.Assertions.{In}
 use Rattle.figure1.proofs.Sums.{put_here, put_there}
@@ -64,24 +65,19 @@ can_receive S U q h = rw (is_node_in S, is_node_in U) (go q h)
     go (x ∷ q) h = refl
 
 no_higher : (h r : ℕ) → h ≤ LAST_NUMBER → r ≤ LAST_NUMBER → cond (ltb h r) r h ≤ LAST_NUMBER
-no_higher h r a b = by_test (λ (m : ℕ). m ≤ LAST_NUMBER) (ltb h r) (λ _. b) (λ _. a)
+no_higher h r a b = grind (arith, nat_tests)
 
 module _ {n : ℕ} where
   -- past the loop tests
   module _ (s : ℕ) (a : Node) (own : a.osn ≤ LAST_NUMBER) (high : a.hsn ≤ LAST_NUMBER) where
+    rests_at : (l : Location) → l ≡ home (place_at n l (at≔ l a)) → Rests n (at≔ l a)
+    rests_at l e = record { at_home = e; own = own; high = high }
+
     pub rests_sending : Rests n (main n s m31 a)
-    rests_sending = go (leb a.p n)
-      where
-        go : (b : Bool) → Rests n (at≔ (cond b m32 m4) a)
-        go true = record { at_home = refl; own = own; high = high }
-        go false = record { at_home = refl; own = own; high = high }
+    rests_sending = cond_both (leb a.p n) _ _ (λ (l : Location). Rests n (at≔ l a)) (λ _. rests_at m32 refl) (λ _. rests_at m4 refl)
 
     pub rests_giving : Rests n (main n s m71 a)
-    rests_giving = go (leb a.p n)
-      where
-        go : (b : Bool) → Rests n (at≔ (cond b m72 m1) a)
-        go true = record { at_home = refl; own = own; high = high }
-        go false = record { at_home = refl; own = own; high = high }
+    rests_giving = cond_both (leb a.p n) _ _ (λ (l : Location). Rests n (at≔ l a)) (λ _. rests_at m72 refl) (λ _. rests_at m1 refl)
 
   -- where p and the location stay
   rests_on : (a b : Node) → Rests n a → b.at ≡ a.at → b.p ≡ a.p → b.osn ≡ a.osn → b.hsn ≤ LAST_NUMBER → Rests n b
@@ -125,7 +121,7 @@ module _ {n : ℕ} where
         run = move (can_receive S U (σ.chq u s) h) stop;
         number = tt;
       };
-      settled = by_test (λ (τ : State). Settled n τ.node) (grants s u (first (σ.chq u s)) (σ.node s))
+      settled = cond_both (grants s u (first (σ.chq u s)) (σ.node s)) _ _ (λ (τ : State). Settled n τ.node)
           (λ _. changed (raised (first (σ.chq u s)) (σ.node s)) refl refl refl seen)
           (λ _. changed (rd≔ u true (raised (first (σ.chq u s)) (σ.node s))) refl refl refl seen);
     }

@@ -1,14 +1,14 @@
 -- M's statements against the table: m1, m31, m5 and m71 leave it, and the others are accepted steps.
 use mathlib.Core.Path.{◌≡◌, refl, sym, ap, ◌∙◌}
-use mathlib.Core.Logic.{◌≢◌}
-use mathlib.Core.Bool.{Bool, true, false, cond}
+use mathlib.Core.Logic.{◌≢◌, inl, inr}
+use mathlib.Core.Bool.{true, false, cond}
 use mathlib.Core.List.{List, [], ◌∷◌, ◌++◌}
 use Prim.Native.Nat.{ℕ, ◌-◌, ◌≤◌, ◌<◌}
 use native.Mathlib.Omega.{arith}
 use native.Mathlib.Decide.{ℕ_discrete}
 use lib.ListN.{length}
 use lib.Dec.{leb}
-use borrow.Author.Tests.{eq-eqb, ne_eqb}
+use Rattle.std.proofs.lemmas.Bool.{cases_Bool, eq-eqb, ne_eqb}
 use Rattle.station.specs.declared.Station.{Station}
 use Rattle.station.specs.declared.Cells.{Cells}
 use Rattle.station.specs.declared.Step.TheVariants.{Ask, Send, Enter, Leave, Give}
@@ -23,7 +23,6 @@ use Rattle.figure1.proofs.Sums.{put_here, put_there, put₂_here, put₂_row}
 use Rattle.figure1.proofs.Theorems.{asserted}
 use Rattle.figure1.proofs.Reached.{counting}
 use Rattle.figure1.proofs.Slots.{asked_once, no_self, room_to_send, room_to_give}
-use Rattle.demands.specs.Demands.{head_shown}
 use Rattle.demands.proofs.Stations.{is_station_in}
 use Rattle.demands.proofs.Queues.{no_request, no_answer}
 use Rattle.demands.proofs.Mirrors.{Mirrors, stays, lands, lands_head}
@@ -46,19 +45,11 @@ module _ {n : ℕ} (C : Count n) {ls : List Label} {σ : State} (R : Run n initi
 
   pub m31_stays : a.at ≡ m31 → Mirrors n t (does n σ (M m31 s))
   unfolding does
-  m31_stays e = stays C m S (at≔ (cond (leb a.p n) m32 m4) a) (λ l. refl) (rw e (go (leb a.p n) refl))
-    where
-      go : (b : Bool) → leb a.p n ≡ b → head_shown n (at≔ (cond b m32 m4) a) ≡ head_shown n (at≔ m31 a)
-      go true f = rw f
-      go false f = rw f
+  m31_stays e = stays C m S (at≔ (cond (leb a.p n) m32 m4) a) (λ l. refl) (rw e (elim (cases_Bool (leb a.p n)) [ inl f ↦ rw f | inr f ↦ rw f ]))
 
   pub m71_stays : a.at ≡ m71 → Mirrors n t (does n σ (M m71 s))
   unfolding does
-  m71_stays e = stays C m S (at≔ (cond (leb a.p n) m72 m1) a) (λ l. refl) (rw e (go (leb a.p n) refl))
-    where
-      go : (b : Bool) → leb a.p n ≡ b → head_shown n (at≔ (cond b m72 m1) a) ≡ head_shown n (at≔ m71 a)
-      go true f = rw f
-      go false f = rw f
+  m71_stays e = stays C m S (at≔ (cond (leb a.p n) m72 m1) a) (λ l. refl) (rw e (elim (cases_Bool (leb a.p n)) [ inl f ↦ rw f | inr f ↦ rw f ]))
 
   -- ---- steps on the head alone
   pub m2_works : a.at ≡ m2 → a.hsn < LAST_NUMBER → Works n t (Ask s) (does n σ (M m2 s))
@@ -176,8 +167,4 @@ module _ {n : ℕ} (C : Count n) {ls : List Label} {σ : State} (R : Run n initi
 
     pub m72_works : Works n t (Give s) (does n σ (M m72 s))
     unfolding does
-    m72_works = go (a.rd a.p) refl
-      where
-        go : (b : Bool) → a.rd a.p ≡ b → Works n t (Give s) (does n σ (M m72 s))
-        go true f = rw f (gives f)
-        go false f = rw f (gives_none f)
+    m72_works = elim (cases_Bool (a.rd a.p)) [ inl f ↦ rw f (gives f) | inr f ↦ rw f (gives_none f) ]

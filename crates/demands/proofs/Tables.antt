@@ -10,8 +10,8 @@ use lib.Seq.{get_or-set_same, get_or-set_other}
 use Rattle.station.specs.declared.Head.{Head}
 use Rattle.station.specs.declared.Cells.{Cells}
 use Rattle.station.specs.declared.Station.{Station}
-use Rattle.rows.specs.declared.Outcome.{Outcome}
 use Rattle.station.specs.Names.{STATIONS}
+use Rattle.rows.specs.Rows.{Outcome}
 use Rattle.form.specs.Form.{new_cells}
 use Rattle.table.specs.Table.{no_station, head_in, cells_in, put_head, put_cells, landed}
 

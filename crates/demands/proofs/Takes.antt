@@ -1,12 +1,12 @@
 -- q1 and r1 against the table: what they receive is in its slot, and both are accepted steps.
 use mathlib.Core.Path.{◌≡◌, refl, sym, ap, ◌∙◌}
 use mathlib.Core.Logic.{◌≢◌}
-use mathlib.Core.Bool.{Bool, true, false, cond}
+use mathlib.Core.Bool.{true, false}
 use mathlib.Core.List.{List, [], ◌∷◌, ◌++◌}
 use Prim.Native.Nat.{ℕ, ◌+◌, ◌-◌, ◌<◌}
 use native.Mathlib.Omega.{arith}
 use lib.ListN.{length}
-use borrow.Author.Tests.{ne_eqb}
+use Rattle.std.proofs.lemmas.Bool.{cond_both, ne_eqb}
 use Rattle.station.specs.declared.Station.{Station}
 use Rattle.station.specs.declared.Cells.{Cells}
 use Rattle.station.specs.declared.Step.TheVariants.{TakeRequest, TakeAnswer}
@@ -116,12 +116,7 @@ module _ {n : ℕ} (C : Count n) {ls : List Label} {σ : State} (R : Run n initi
     pub q1_works : Works n t (TakeRequest s u) (does n σ (q1 s u))
     unfolding does
     q1_works = rw (slot.1, grants_shown n a ((asserted R).rcs_range s S) mine.request u s)
-        (go (answers_now mine.request u (place_at n a.at a) a.osn s) refl)
-      where
-        go : (b : Bool) → answers_now mine.request u (place_at n a.at a) a.osn s ≡ b
-            → Works n t (TakeRequest s u) (cond b answering marking)
-        go true e = answers e
-        go false e = marks e
+        (cond_both (answers_now mine.request u (place_at n a.at a) a.osn s) _ _ (Works n t (TakeRequest s u)) answers marks)
 
   module _ (h : 0 < length (σ.chp u s)) where
     pub r1_works : Works n t (TakeAnswer s u) (does n σ (r1 s u))

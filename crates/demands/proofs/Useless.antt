@@ -1,8 +1,9 @@
 -- Of each useless engine: demand 2 fails of it, at n = 2 in the first step or two; and it passes demand 3's first sentence all the same.
 use mathlib.Core.Path.{refl, ap, ◌≡◌, sym, ◌∙◌}
-use mathlib.Core.Bool.{false≢true, Bool, true, false, cond}
+use mathlib.Core.Bool.{false≢true, true}
 use mathlib.Core.List.{[], ◌∷◌, List, ◌++◌}
 use native.Mathlib.Omega.{arith}
+use Rattle.std.proofs.lemmas.Bool.{cases_cond}
 use Rattle.station.specs.declared.Head.{Head}
 use Rattle.station.specs.declared.Step.TheVariants.{Ask, Enter}
 use Rattle.figure1.specs.Figure1.{State, initial, M, m1, m2, m31, can, does, put, Run, stop, move}
@@ -91,14 +92,10 @@ passes n ok E S xs i j H K h k =
     let o = stays_ours E S n _ xs (record { steps = []; same = refl }) in
     (demand_3 n ok).one_holder o.steps i j H K (rw o.same at h) (rw o.same at k)
 
-either : (b : Bool) (t u : List Station) → (cond b t u ≡ t) ⊎ (cond b t u ≡ u)
-either true t u = inl refl
-either false t u = inr refl
-
 pub pass_first_sentence : PassFirstSentence
 pass_first_sentence = record {
   refuses_all = λ code n ok. passes n ok (refuses_all code) (λ n t x. inr refl);
   says_accepted = λ n ok. passes n ok says_accepted (λ n t x. inr refl);
   does_nothing = λ n ok. passes n ok does_nothing (λ n t x. inr refl);
-  works_once = λ n ok. passes n ok works_once (λ n t x. either (all_idle t) (after n t x) t);
+  works_once = λ n ok. passes n ok works_once (λ n t x. cases_cond (all_idle t) (after n t x) t _ refl);
 }

@@ -1,13 +1,13 @@
 -- Between steps, every step offered is one that the program takes, or is refused with a code other than 2 and 8.
 use mathlib.Core.Path.{◌≡◌, refl, ap, ◌∙◌}
 use mathlib.Core.Logic.{◌≢◌, ◌⊎◌, inl, inr}
-use mathlib.Core.Bool.{Bool, true, false, cond}
+use mathlib.Core.Bool.{Bool, true, false}
 use mathlib.Core.List.{List}
 use Prim.Native.Nat.{ℕ, ◌-◌, ◌<◌}
 use native.Mathlib.Omega.{arith}
 use native.Mathlib.Decide.{ℕ_discrete}
-use borrow.Author.Tests.{eq-eqb, ne_eqb}
-use Rattle.station.specs.declared.Head.{Head}
+use Rattle.std.proofs.lemmas.Bool.{cases_Bool, cond_both, eq-eqb, ne_eqb}
+use Rattle.std.proofs.lemmas.Bool.Decides.{nat_tests}
 use Rattle.station.specs.declared.Cells.{Cells}
 use Rattle.station.specs.declared.Station.{Station}
 use Rattle.station.specs.declared.Step.{Step}
@@ -27,44 +27,6 @@ use Rattle.demands.proofs.Settled.{home, Rests, Settled, Proceeds, begins, goes,
 
 abbrev pub Refused : ℕ → Type 0
 Refused code = (code ≢ ACCEPTED) × (code ≢ NOT_WELL_FORMED) × (code ≢ AT_ODDS)
-
--- ---- the rows that refuse
-module _ (n s : ℕ) (h : Head) (c d : Cells) where
-  not_idle : h.place ≢ IDLE → Refused (ask_rule n h c d).code
-  unfolding ask_rule
-  not_idle e = rw (ne_eqb h.place IDLE e) (omega arith)
-
-  no_number : h.place ≡ IDLE → h.high ≡ LAST_NUMBER → Refused (ask_rule n h c d).code
-  unfolding ask_rule
-  no_number e f = rw (eq-eqb h.place IDLE e, eq-eqb h.high LAST_NUMBER f) (omega arith)
-
-  not_sending : h.place ≢ SENDING → Refused (send_rule n s h c d).code
-  unfolding send_rule
-  not_sending e = rw (ne_eqb h.place SENDING e) (omega arith)
-
-  not_waiting : h.place ≢ WAITING → Refused (enter_rule h c d).code
-  unfolding enter_rule
-  not_waiting e = rw (ne_eqb h.place WAITING e) (omega arith)
-
-  answers_due : h.place ≡ WAITING → h.due ≢ 0 → Refused (enter_rule h c d).code
-  unfolding enter_rule
-  answers_due e f = rw (eq-eqb h.place WAITING e, ne_eqb h.due 0 f) (omega arith)
-
-  not_holding : h.place ≢ HOLDING → Refused (leave_rule h c d).code
-  unfolding leave_rule
-  not_holding e = rw (ne_eqb h.place HOLDING e) (omega arith)
-
-  not_giving : h.place ≢ GIVING → Refused (give_rule n h c d).code
-  unfolding give_rule
-  not_giving e = rw (ne_eqb h.place GIVING e) (omega arith)
-
-  no_request_there : (t : ℕ) → c.request ≡ 0 → Refused (take_request_rule s t h c d).code
-  unfolding take_request_rule
-  no_request_there t e = rw (eq-eqb c.request 0 e) (omega arith)
-
-  no_answer_there : c.answer ≡ false → Refused (take_answer_rule h c d).code
-  unfolding take_answer_rule
-  no_answer_there e = rw e (omega arith)
 
 module _ {n : ℕ} (C : Count n) {ls : List Label} {σ : State} (R : Run n initial ls σ) {t : List Station} (m : Mirrors n t σ) (H : Settled n σ.node) where
   abbrev Verdict : Step → Type 0
@@ -100,9 +62,9 @@ module _ {n : ℕ} (C : Count n) {ls : List Label} {σ : State} (R : Run n initi
     a = σ.node s
 
     ask_verdict : Verdict (Ask s)
-    unfolding stations_ok step_rule
-    ask_verdict = at_place (Ask s) S refl ok IDLE (not_idle n s _ _ _) (λ p e. elim (ℕ_discrete a.hsn LAST_NUMBER) [
-      | yes h ↦ coded (Ask s) S refl ok (no_number n s _ _ _ p h)
+    unfolding stations_ok step_rule ask_rule
+    ask_verdict = at_place (Ask s) S refl ok IDLE (λ d. grind (arith, nat_tests)) (λ p e. elim (ℕ_discrete a.hsn LAST_NUMBER) [
+      | yes h ↦ coded (Ask s) S refl ok (grind (arith, nat_tests))
       | no d ↦
           let h : a.hsn < LAST_NUMBER = omega (arith, (H s S).high) in
           inl (proceeds σ S (Ask s) H (goes σ S m31 refl refl (goes σ S m2 refl refl (goes σ S m1 e refl (begins σ S)))) h
@@ -110,50 +72,48 @@ module _ {n : ℕ} (C : Count n) {ls : List Label} {σ : State} (R : Run n initi
     ])
 
     send_verdict : Verdict (Send s)
-    unfolding stations_ok step_rule
-    send_verdict = at_place (Send s) S refl ok SENDING (not_sending n s _ _ _) (λ _ e.
+    unfolding stations_ok step_rule send_rule
+    send_verdict = at_place (Send s) S refl ok SENDING (λ d. grind (arith, nat_tests)) (λ _ e.
         inl (proceeds σ S (Send s) H (goes σ S m31 refl refl (goes σ S m32 e refl (begins σ S))) tt
         (rests_sending s (counted m31 a) (H s S).own (H s S).high)))
 
     enter_verdict : Verdict (Enter s)
-    unfolding stations_ok step_rule
-    enter_verdict = at_place (Enter s) S refl ok WAITING (not_waiting n s _ _ _) (λ p e. elim (ℕ_discrete a.c 0) [
-      | no d ↦ coded (Enter s) S refl ok (answers_due n s _ _ _ p d)
+    unfolding stations_ok step_rule enter_rule
+    enter_verdict = at_place (Enter s) S refl ok WAITING (λ d. grind (arith, nat_tests)) (λ p e. elim (ℕ_discrete a.c 0) [
+      | no d ↦ coded (Enter s) S refl ok (grind (arith, nat_tests))
       | yes z ↦ inl (proceeds σ S (Enter s) H (goes σ S m4 e (eq-eqb a.c 0 z) (begins σ S)) tt
           (record { at_home = refl; own = (H s S).own; high = (H s S).high }))
     ])
 
     leave_verdict : Verdict (Leave s)
-    unfolding stations_ok step_rule
-    leave_verdict = at_place (Leave s) S refl ok HOLDING (not_holding n s _ _ _) (λ _ e.
+    unfolding stations_ok step_rule leave_rule
+    leave_verdict = at_place (Leave s) S refl ok HOLDING (λ d. grind (arith, nat_tests)) (λ _ e.
         inl (proceeds σ S (Leave s) H (goes σ S m71 refl refl (goes σ S m6 refl refl (goes σ S m5 e refl (begins σ S)))) tt
         (rests_giving s (released (at≔ m6 a)) (H s S).own (H s S).high)))
 
     give_verdict : Verdict (Give s)
-    unfolding stations_ok step_rule
-    give_verdict = at_place (Give s) S refl ok GIVING (not_giving n s _ _ _) (λ _ e.
-        inl (proceeds σ S (Give s) H (goes σ S m71 refl refl (goes σ S m72 e refl (begins σ S))) tt (gave (a.rd a.p))))
-      where
-        gave : (b : Bool) → Rests n (main n s m71 (counted m71 (cond b (rd≔ a.p false a) a)))
-        gave true = rests_giving s (counted m71 (rd≔ a.p false a)) (H s S).own (H s S).high
-        gave false = rests_giving s (counted m71 a) (H s S).own (H s S).high
+    unfolding stations_ok step_rule give_rule
+    give_verdict = at_place (Give s) S refl ok GIVING (λ d. grind (arith, nat_tests)) (λ _ e.
+        inl (proceeds σ S (Give s) H (goes σ S m71 refl refl (goes σ S m72 e refl (begins σ S))) tt
+        (cond_both (a.rd a.p) _ _ (λ (b : Node). Rests n (main n s m71 (counted m71 b)))
+        (λ _. rests_giving s (counted m71 (rd≔ a.p false a)) (H s S).own (H s S).high)
+        (λ _. rests_giving s (counted m71 a) (H s S).own (H s S).high))))
 
   -- the two takes
   module _ {s u : ℕ} (S : In n s) (U : In n u) where
     request_verdict : stations_ok n (TakeRequest s u) ≡ true → Verdict (TakeRequest s u)
-    unfolding step_rule
+    unfolding step_rule take_request_rule
     request_verdict ok = elim (ℕ_discrete (cells_in t (s - 1) (u - 1)).request 0) [
-      | yes e ↦ coded (TakeRequest s u) S refl ok (no_request_there n s _ _ _ u (rw (seated C U) e))
+      | yes e ↦ coded (TakeRequest s u) S refl ok (rw (seated C U, eq-eqb _ 0 e) (omega arith))
       | no d ↦ inl (requested σ S U H R (rw ((m.wires s u S U).request, ne_eqb _ 0 d) (omega arith)))
     ]
 
     answer_verdict : stations_ok n (TakeAnswer s u) ≡ true → Verdict (TakeAnswer s u)
-    unfolding step_rule
-    answer_verdict ok = go (cells_in t (s - 1) (u - 1)).answer refl
-      where
-        go : (b : Bool) → (cells_in t (s - 1) (u - 1)).answer ≡ b → Verdict (TakeAnswer s u)
-        go false e = coded (TakeAnswer s u) S refl ok (no_answer_there n s _ _ _ (rw (seated C U) e))
-        go true e = inl (answered σ S U H (rw ((m.wires s u S U).answer, e) (omega arith)))
+    unfolding step_rule take_answer_rule
+    answer_verdict ok = elim (cases_Bool (cells_in t (s - 1) (u - 1)).answer) [
+      | inl e ↦ inl (answered σ S U H (rw ((m.wires s u S U).answer, e) (omega arith)))
+      | inr e ↦ coded (TakeAnswer s u) S refl ok (rw (seated C U, e) (omega arith))
+    ]
 
   pub verdict : (x : Step) → Verdict x
   unfolding stations_ok

@@ -7,12 +7,11 @@ use native.Mathlib.Decide.{ℕ_discrete}
 use Rattle.station.specs.declared.Station.{Station}
 use Rattle.station.specs.declared.Head.{Head}
 use Rattle.station.specs.declared.Cells.{Cells}
-use Rattle.rows.specs.declared.Outcome.{Outcome}
 use Rattle.station.specs.declared.Step.{Step}
 use Rattle.station.specs.Names.{ACCEPTED}
 use Rattle.station.specs.Stations.{stations_ok, named_by, peer_of}
 use Rattle.station.proofs.Laws.{Count, count_ok_within}
-use Rattle.rows.specs.Rows.{outcome_of, step_rule, outcome}
+use Rattle.rows.specs.Rows.{Outcome, outcome_of, step_rule, outcome}
 use Rattle.table.specs.Table.{cells_in, seat, peer_seat, outcome_in, landed, well_formed, answer, after}
 use Rattle.table.proofs.Answers.{passed}
 use Rattle.table.proofs.Kept.{form_kept}

@@ -7,15 +7,14 @@ mod steps;
 use std::io;
 
 fn main(rt: HostRuntime) -> io::Result<()> {
-    steps::open_with(&rt, 1)?;
-    steps::open_with(&rt, 2)?;
-    steps::open_with(&rt, 32)?;
-    steps::open_with(&rt, 33)?;
+    for n in [1, 2, 32, 33] {
+        steps::open_with(&rt, n)?;
+    }
     steps::repeat_the_tie(&rt)?;
-    steps::try_a_bad_place(&rt)?;
-    steps::try_the_odds(&rt)?;
-    inputs::feed_lines(&rt)?;
-    inputs::feed_kinds(&rt)?;
-    inputs::feed_numbers(&rt)?;
+    steps::try_bad_tables(&rt)?;
+    steps::try_bad_takes(&rt)?;
+    inputs::feed_all(&rt, inputs::LINES)?;
+    inputs::feed_all(&rt, inputs::KINDS)?;
+    inputs::feed_all(&rt, inputs::NUMBERS)?;
     inputs::feed_the_limit(&rt)
 }

@@ -1,169 +1,170 @@
-// Openings and steps of tables by value, fresh ones and doctored ones. A line has the digits of the bench's: code, place, due, holder.
-use station::{Cells, Head, STATIONS, Station, Step};
-use std::io;
+// Openings and steps of networks, fresh ones and doctored ones.
+use network::{Network, Stepped};
+use station::{Cells, Head, Place, Step};
+use std::{fmt, io};
 
-fn show_byte(rt: &impl Print, byte: u8) -> io::Result<()> {
-    let pair = frames::pair_of(byte);
-    rt.write_all(&[pair.high, pair.low])
+// The digits of a line of the bench: the code, the place of the named station, its answers due, and the station in Holding (0: none). Numbers, since 01 prints them so; a struct of its own, since that of crate session is private, writes bytes by contract, and shows no place under code 3.
+#[derive(Clone, Copy, Default)]
+struct Line {
+    code: u8,
+    place: u8,
+    due: u8,
+    holder: usize,
 }
 
-fn show_number(rt: &impl Print, name: &str, number: usize) -> io::Result<()> {
-    print!(rt; "{name}{number}")
-}
-
-fn show_two(rt: &impl Print, name: &str, s: usize, t: usize) -> io::Result<()> {
-    show_number(rt, name, s)?;
-    show_number(rt, " from ", t)
-}
-
-fn show_step(rt: &impl Print, step: Step) -> io::Result<()> {
-    match step {
-        Step::Ask(s) => show_number(rt, "Ask ", s),
-        Step::Send(s) => show_number(rt, "Send ", s),
-        Step::Enter(s) => show_number(rt, "Enter ", s),
-        Step::Leave(s) => show_number(rt, "Leave ", s),
-        Step::Give(s) => show_number(rt, "Give ", s),
-        Step::TakeRequest(s, t) => show_two(rt, "Take request ", s, t),
-        Step::TakeAnswer(s, t) => show_two(rt, "Take answer ", s, t),
+impl fmt::Display for Line {
+    fn fmt<W: fmt::Write>(&self, f: &mut fmt::Formatter<W>) -> fmt::Result {
+        let Line {
+            code,
+            place,
+            due,
+            holder,
+        } = self;
+        write!(f, "{code:02X}{place:02X}{due:02X}{holder:02X}")
     }
-}
-
-fn show_line(rt: &impl Print, code: u8, place: u8, due: u8, holder: usize) -> io::Result<()> {
-    rt.print(": ")?;
-    show_byte(rt, code)?;
-    show_byte(rt, place)?;
-    show_byte(rt, due)?;
-    show_byte(rt, (holder % 256) as u8)
 }
 
 pub fn open_with(rt: &impl Print, n: usize) -> io::Result<()> {
-    let opened = network::open(n);
-    show_number(rt, "open ", n)?;
-    show_line(rt, opened.code, 0, 0, 0)?;
-    rt.println("")
+    let code = station::code_of(Network::open(n).map(|_| ()));
+    let line = Line {
+        code,
+        ..Line::default()
+    };
+    println!(rt; "open {n}: {line}")
 }
 
-// One step in a network of two, with the station's own number behind its line.
-fn take(
-    rt: &impl Print,
-    table: [Station; STATIONS],
-    step: Step,
-) -> io::Result<[Station; STATIONS]> {
-    let stepped = network::step(table, 2, step);
-    let head = stepped.head;
-    show_step(rt, step)?;
-    show_line(rt, stepped.code, head.place, head.due, stepped.holder)?;
-    show_number(rt, " number ", head.own as usize)?;
-    rt.println("")?;
-    Ok(stepped.table)
+// One step, with the station's own number behind its line.
+fn take(rt: &impl Print, network: &mut Network, step: Step) -> io::Result<()> {
+    let Stepped {
+        answer,
+        head,
+        holder,
+    } = network.step(step);
+    let line = Line {
+        code: station::code_of(answer),
+        place: head.place,
+        due: head.due,
+        holder: holder.unwrap_or(0),
+    };
+    println!(rt; "{step}: {line} number {}", head.own)
 }
 
-// A station that asked sends to the end.
-fn send_all(
-    rt: &impl Print,
-    table: [Station; STATIONS],
-    s: usize,
-) -> io::Result<[Station; STATIONS]> {
-    let sent = take(rt, table, Step::Send(s))?;
-    take(rt, sent, Step::Send(s))
+fn take_all(rt: &impl Print, network: &mut Network, steps: &[Step]) -> io::Result<()> {
+    for step in steps {
+        take(rt, network, *step)?;
+    }
+    Ok(())
 }
+
+// A fresh network of two stations: the proof shows that this opening is not refused.
+#[tactic(auto, using(network::proofs::Opens::opens), unfolding(station::specs::Stations::count_ok))]
+fn opened() -> Network {
+    Network::open(2).unwrap()
+}
+
+// Both ask with number 1, and send to the end.
+const TIE: &[Step] = &[
+    Step::Ask(1),
+    Step::Ask(2),
+    Step::Send(1),
+    Step::Send(1),
+    Step::Send(2),
+    Step::Send(2),
+];
 
 // Station 1 is answered by 2, has its turn and gives it up, and 2's own request stays under way.
-fn pass_by(rt: &impl Print, table: [Station; STATIONS]) -> io::Result<[Station; STATIONS]> {
-    let answered = take(rt, table, Step::TakeRequest(2, 1))?;
-    let free = take(rt, answered, Step::TakeAnswer(1, 2))?;
-    let held = take(rt, free, Step::Enter(1))?;
-    let left = take(rt, held, Step::Leave(1))?;
-    let given = take(rt, left, Step::Give(1))?;
-    take(rt, given, Step::Give(1))
-}
+const PASS_BY: &[Step] = &[
+    Step::TakeRequest(2, 1),
+    Step::TakeAnswer(1, 2),
+    Step::Enter(1),
+    Step::Leave(1),
+    Step::Give(1),
+    Step::Give(1),
+];
 
-// Station 1 asks again, and is answered again.
-fn ask_again(rt: &impl Print, table: [Station; STATIONS]) -> io::Result<[Station; STATIONS]> {
-    let asked = take(rt, table, Step::Ask(1))?;
-    let sent = send_all(rt, asked, 1)?;
-    pass_by(rt, sent)
-}
+// Station 1 asks again, and sends to the end.
+const ASK_AGAIN: &[Step] = &[Step::Ask(1), Step::Send(1), Step::Send(1)];
 
 // 01's last edge: both ask with number 1, and 1 has its turn again and again until it takes 2's request.
 pub fn repeat_the_tie(rt: &impl Print) -> io::Result<()> {
-    let opened = network::open(2);
-    let new = opened.table;
-    let one_asked = take(rt, new, Step::Ask(1))?;
-    let both_asked = take(rt, one_asked, Step::Ask(2))?;
-    let one_sent = send_all(rt, both_asked, 1)?;
-    let both_sent = send_all(rt, one_sent, 2)?;
-    let passed = pass_by(rt, both_sent)?;
-    let passed_again = ask_again(rt, passed)?;
-    let passed_thrice = ask_again(rt, passed_again)?;
-    take(rt, passed_thrice, Step::TakeRequest(1, 2))?;
-    Ok(())
-}
-
-// A table of two stations: the head of station 1, its cells for 2, and 2's cells for 1.
-fn doctored(head: Head, mine: Cells, theirs: Cells) -> [Station; STATIONS] {
-    let opened = network::open(2);
-    let mut table = opened.table;
-    let first = table[0];
-    let mut cells = first.cells;
-    cells[1] = mine;
-    table[0] = Station {
-        head: head,
-        cells: cells,
-    };
-    let mut second = table[1];
-    second.cells[0] = theirs;
-    table[1] = second;
-    table
-}
-
-fn empty() -> Cells {
-    Cells {
-        request: 0,
-        answer: false,
-        mark: false,
+    let mut network = opened();
+    take_all(rt, &mut network, TIE)?;
+    take_all(rt, &mut network, PASS_BY)?;
+    for _ in 0..2 {
+        take_all(rt, &mut network, ASK_AGAIN)?;
+        take_all(rt, &mut network, PASS_BY)?;
     }
+    take(rt, &mut network, Step::TakeRequest(1, 2))
 }
 
-fn request(mark: bool) -> Cells {
-    Cells {
-        request: 1,
-        answer: false,
-        mark: mark,
-    }
+// What is put into an opened network of two before steps are offered: the place, next peer and answers due of station 1, its cells for 2, and 2's cells for 1.
+#[derive(Clone, Copy, Default)]
+struct Doctored {
+    place: u8,
+    next: u8,
+    due: u8,
+    mine: Cells,
+    theirs: Cells,
 }
 
-fn head(place: u8, next: u8, due: u8) -> Head {
-    Head {
-        place: place,
+fn try_steps(rt: &impl Print, doctored: Doctored, steps: &[Step]) -> io::Result<()> {
+    let mut network = opened();
+    network.table[0].head = Head {
+        place: doctored.place,
         own: 1,
-        high: 0,
-        next: next,
-        due: due,
-    }
-}
-
-// There is no place 5, so any step is refused, one of station 2 too.
-pub fn try_a_bad_place(rt: &impl Print) -> io::Result<()> {
-    let table = doctored(head(5, 1, 0), empty(), empty());
-    let same = take(rt, table, Step::Ask(1))?;
-    take(rt, same, Step::Ask(2))?;
-    Ok(())
-}
-
-// The wire that a Send must fill is occupied, the mark that a taking must set is set, an answer comes that is not due.
-pub fn try_the_odds(rt: &impl Print) -> io::Result<()> {
-    let full = doctored(head(1, 2, 1), empty(), request(false));
-    let same = take(rt, full, Step::Send(1))?;
-    take(rt, same, Step::Send(1))?;
-    let marked = doctored(head(2, 1, 1), request(true), empty());
-    take(rt, marked, Step::TakeRequest(1, 2))?;
-    let answer = Cells {
-        request: 0,
-        answer: true,
-        mark: false,
+        next: doctored.next,
+        due: doctored.due,
+        ..Head::default()
     };
-    let early = doctored(head(2, 1, 0), answer, empty());
-    take(rt, early, Step::TakeAnswer(1, 2))?;
-    Ok(())
+    network.table[0].cells[1] = doctored.mine;
+    network.table[1].cells[0] = doctored.theirs;
+    take_all(rt, &mut network, steps)
+}
+
+// A place that there is not, for which any step is refused, one of station 2 too; and the wire that a Send must fill occupied.
+pub fn try_bad_tables(rt: &impl Print) -> io::Result<()> {
+    let no_place = Doctored {
+        place: 5,
+        next: 1,
+        ..Doctored::default()
+    };
+    try_steps(rt, no_place, &[Step::Ask(1), Step::Ask(2)])?;
+    let full_wire = Doctored {
+        place: Place::Sending as u8,
+        next: 2,
+        due: 1,
+        theirs: Cells {
+            request: 1,
+            ..Cells::default()
+        },
+        ..Doctored::default()
+    };
+    try_steps(rt, full_wire, &[Step::Send(1), Step::Send(1)])
+}
+
+// The mark that a taking must set is set, and an answer comes that is not due.
+pub fn try_bad_takes(rt: &impl Print) -> io::Result<()> {
+    let waiting = Doctored {
+        place: Place::Waiting as u8,
+        next: 1,
+        ..Doctored::default()
+    };
+    let marked = Doctored {
+        due: 1,
+        mine: Cells {
+            request: 1,
+            answer: false,
+            mark: true,
+        },
+        ..waiting
+    };
+    try_steps(rt, marked, &[Step::TakeRequest(1, 2)])?;
+    let early = Doctored {
+        mine: Cells {
+            answer: true,
+            ..Cells::default()
+        },
+        ..waiting
+    };
+    try_steps(rt, early, &[Step::TakeAnswer(1, 2)])
 }

@@ -1,18 +1,14 @@
 -- Lists of offered steps put end to end: the table, the entries and the accepted steps.
 use mathlib.Core.Path.{◌≡◌, refl, sym}
-use mathlib.Core.Bool.{Bool, true, false, cond}
 use mathlib.Core.List.{List, [], ◌∷◌, ◌++◌}
 use Prim.Native.Nat.{ℕ, ◌+◌}
 use native.Mathlib.Nat.{zero-add}
 use native.Mathlib.Omega.{arith}
+use mathlib.Core.Logic.{inl, inr}
+use Rattle.std.proofs.lemmas.Bool.{cases_Bool}
 use Rattle.station.specs.declared.Station.{Station}
 use Rattle.station.specs.declared.Step.{Step}
 use Rattle.engines.specs.Engines.{Engine, accepts, table_after, accepted_of, entries}
-
--- a step that is kept or dropped, before what follows
-kept_append : (b : Bool) (x : Step) (us vs : List Step) → cond b (x ∷ us) us ++ vs ≡ cond b (x ∷ (us ++ vs)) (us ++ vs)
-kept_append true x us vs = refl
-kept_append false x us vs = refl
 
 module _ (E : Engine) (n : ℕ) where
   pub after_append : (t : List Station) (xs ys : List Step) → table_after E n t (xs ++ ys) ≡ table_after E n (table_after E n t xs) ys
@@ -31,4 +27,4 @@ module _ (E : Engine) (n : ℕ) where
   unfolding accepted_of table_after
   accepted_append t [] ys = refl
   accepted_append t (x ∷ xs) ys =
-      rw (accepted_append (E.after n t x) xs ys) (sym (kept_append (accepts E n t x) x (accepted_of E n (E.after n t x) xs) _))
+      rw (accepted_append (E.after n t x) xs ys) (elim (cases_Bool (accepts E n t x)) [ inl e ↦ rw e | inr e ↦ rw e ])

@@ -1,30 +1,28 @@
 // Station 1 of two gets the turn and gives it back. A line for each step: its code, and the station that then holds the turn (0: none).
 #![tactic(auto)]
 
-use station::{STATIONS, Station, Step};
+use network::Network;
+use station::Step;
 use std::io;
 
-fn take(
-    rt: &impl Print,
-    table: [Station; STATIONS],
-    step: Step,
-) -> io::Result<[Station; STATIONS]> {
-    let stepped = network::step(table, 2, step);
-    println!(rt; "{} {}", stepped.code, stepped.holder)?;
-    Ok(stepped.table)
-}
-
+#[tactic(auto, using(network::proofs::Opens::opens), unfolding(station::specs::Stations::count_ok))]
 fn main(rt: HostRuntime) -> io::Result<()> {
-    let opened = network::open(2);
-    let table = opened.table;
-    let asked = take(&rt, table, Step::Ask(1))?;
-    let sending = take(&rt, asked, Step::Send(1))?;
-    let sent = take(&rt, sending, Step::Send(1))?;
-    let answered = take(&rt, sent, Step::TakeRequest(2, 1))?;
-    let free = take(&rt, answered, Step::TakeAnswer(1, 2))?;
-    let holding = take(&rt, free, Step::Enter(1))?;
-    let left = take(&rt, holding, Step::Leave(1))?;
-    let giving = take(&rt, left, Step::Give(1))?;
-    take(&rt, giving, Step::Give(1))?;
+    let mut network = Network::open(2).unwrap();
+    for step in [
+        Step::Ask(1),
+        Step::Send(1),
+        Step::Send(1),
+        Step::TakeRequest(2, 1),
+        Step::TakeAnswer(1, 2),
+        Step::Enter(1),
+        Step::Leave(1),
+        Step::Give(1),
+        Step::Give(1),
+    ] {
+        let stepped = network.step(step);
+        let code = station::code_of(stepped.answer);
+        let holder = stepped.holder.unwrap_or(0);
+        println!(rt; "{code} {holder}")?;
+    }
     Ok(())
 }

@@ -1,22 +1,26 @@
 -- What a line of the bench's input means, and how a byte is written: 01, "Frames and the bench program".
-use Rattle.std.specs.Prelude.{◌≡◌, ℕ, ◌+◌, ◌-◌, ◌*◌, ◌/◌, ◌%◌, ◌<◌, cond, List, nat_eq, nat_le, nat_lt, length, slice_index}
+use Rattle.std.specs.Prelude.{◌≡◌, ℕ, ◌+◌, ◌-◌, ◌*◌, ◌/◌, ◌%◌, ◌<◌, cond, List, nat_eq, nat_le, nat_lt, length, slice_index, Option, Some, None}
 use Rattle.station.specs.declared.Step.{Step}
 use Rattle.station.specs.declared.Step.TheVariants.{Ask, Send, Enter, Leave, Give, TakeRequest, TakeAnswer}
 use Rattle.station.specs.Stations.{named_by}
-use Rattle.frames.specs.declared.Byte.{Byte}
-use Rattle.frames.specs.declared.Byte.TheVariants as byte
 use Rattle.frames.specs.declared.Frame.{Frame}
 use Rattle.frames.specs.declared.Frame.TheVariants as frame
 use Rattle.frames.specs.declared.Pair.{Pair}
 
--- "six characters from 0-9 and A-F": the value of such a character (0 is character 48, A is 65), and 16 of any other
-unfoldable pub digit_of : ℕ → ℕ
-digit_of c = cond (nat_lt c 48) 16 (cond (nat_le c 57) (c - 48) (cond (nat_lt c 65) 16 (cond (nat_le c 70) (c - 65 + 10) 16)))
+-- "six characters from 0-9 and A-F": the value of such a character (0 is character 48, A is 65), and none of any other
+unfoldable pub digit_of : ℕ → Option ℕ
+digit_of c =
+    cond (nat_lt c 48) None (cond (nat_le c 57) (Some (c - 48)) (cond (nat_lt c 65) None (cond (nat_le c 70) (Some (c - 65 + 10)) None)))
+
+-- a byte from its two digits, the high one first
+abbrev pub of_digits : Option ℕ → Option ℕ → Option ℕ
+of_digits (Some high) (Some low) = Some (high * 16 + low)
+of_digits (Some high) None = None
+of_digits None low = None
 
 -- a byte from its two characters, the high one first
-unfoldable pub byte_of : ℕ → ℕ → Byte
-byte_of high low =
-    cond (nat_lt (digit_of high) 16) (cond (nat_lt (digit_of low) 16) (byte.Value (digit_of high * 16 + digit_of low)) byte.Bad) byte.Bad
+unfoldable pub byte_of : ℕ → ℕ → Option ℕ
+byte_of high low = of_digits (digit_of high) (digit_of low)
 
 -- "eight hexadecimal digits (the same characters)": the character of a number's last digit, and the two of a byte
 unfoldable pub hex_of : ℕ → ℕ
@@ -27,39 +31,39 @@ unfoldable pub pair_of : ℕ → Pair
 pair_of value = record { high = hex_of (value / 16); low = hex_of value }
 
 -- "The first frame has kind F0, the count as station"; kinds 00 to 04 are 01's steps 0 to 4
-unfoldable pub alone_of : ℕ → ℕ → Frame
+unfoldable pub alone_of : ℕ → ℕ → Option Frame
 alone_of kind s =
-    cond (nat_eq kind 240) (frame.Open s)
-    (cond (nat_eq kind 0) (frame.Move (Ask s))
-    (cond (nat_eq kind 1) (frame.Move (Send s))
-    (cond (nat_eq kind 2) (frame.Move (Enter s))
-    (cond (nat_eq kind 3) (frame.Move (Leave s))
-    (cond (nat_eq kind 4) (frame.Move (Give s)) frame.Bad)))))
+    cond (nat_eq kind 240) (Some (frame.Open s))
+    (cond (nat_eq kind 0) (Some (frame.Move (Ask s)))
+    (cond (nat_eq kind 1) (Some (frame.Move (Send s)))
+    (cond (nat_eq kind 2) (Some (frame.Move (Enter s)))
+    (cond (nat_eq kind 3) (Some (frame.Move (Leave s)))
+    (cond (nat_eq kind 4) (Some (frame.Move (Give s))) None)))))
 
 -- kinds 05 and 06 are the takes, with other as the peer; "other is 00 for kinds 00 to 04", and in the first frame
-unfoldable pub meaning_of : ℕ → ℕ → ℕ → Frame
+unfoldable pub meaning_of : ℕ → ℕ → ℕ → Option Frame
 meaning_of kind station other =
-    cond (nat_eq kind 5) (frame.Move (TakeRequest station other))
-    (cond (nat_eq kind 6) (frame.Move (TakeAnswer station other)) (cond (nat_eq other 0) (alone_of kind station) frame.Bad))
+    cond (nat_eq kind 5) (Some (frame.Move (TakeRequest station other)))
+    (cond (nat_eq kind 6) (Some (frame.Move (TakeAnswer station other))) (cond (nat_eq other 0) (alone_of kind station) None))
 
--- "The three bytes are kind, station, other": a frame is bad where one of them is
-unfoldable pub of_bytes : Byte → Byte → Byte → Frame
-of_bytes (byte.Value kind) (byte.Value station) (byte.Value other) = meaning_of kind station other
-of_bytes (byte.Value kind) (byte.Value station) byte.Bad = frame.Bad
-of_bytes (byte.Value kind) byte.Bad other = frame.Bad
-of_bytes byte.Bad station other = frame.Bad
+-- "The three bytes are kind, station, other": there is no frame where one of them is none
+unfoldable pub of_bytes : Option ℕ → Option ℕ → Option ℕ → Option Frame
+of_bytes (Some kind) (Some station) (Some other) = meaning_of kind station other
+of_bytes (Some kind) (Some station) None = None
+of_bytes (Some kind) None other = None
+of_bytes None station other = None
 
--- "one frame a line: six characters .., then a line feed, the last line too": the frame whose line starts at an index
-unfoldable pub frame_at : List ℕ → ℕ → Frame
+-- "one frame a line: six characters .., then a line feed, the last line too": the frame whose line starts at an index, if it is one
+unfoldable pub frame_at : List ℕ → ℕ → Option Frame
 frame_at s at =
     cond (nat_lt (length s - at) 7)
-    frame.Bad
+    None
     (cond (nat_eq (slice_index s (at + 6)) 10)
     (of_bytes
     (byte_of (slice_index s at) (slice_index s (at + 1)))
     (byte_of (slice_index s (at + 2)) (slice_index s (at + 3)))
     (byte_of (slice_index s (at + 4)) (slice_index s (at + 5))))
-    frame.Bad)
+    None)
 
 -- ---- a step as a frame
 -- 01, "The seven steps": the code of a step, which is the kind of its frame
@@ -84,5 +88,5 @@ other_of (TakeAnswer s t) = t
 
 -- what is written is read back: a byte from its two characters, and a step from its kind, its station and its other byte
 pub record ReadsBack : Type 0 where
-  pub byte_back : (value : ℕ) → value < 256 → byte_of (pair_of value).high (pair_of value).low ≡ byte.Value value
-  pub step_back : (x : Step) → meaning_of (kind_of x) (named_by x) (other_of x) ≡ frame.Move x
+  pub byte_back : (value : ℕ) → value < 256 → byte_of (pair_of value).high (pair_of value).low ≡ Some value
+  pub step_back : (x : Step) → meaning_of (kind_of x) (named_by x) (other_of x) ≡ Some (frame.Move x)

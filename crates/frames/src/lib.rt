@@ -2,163 +2,119 @@
 #![tactic(auto)]
 
 ghost use Rattle.std.specs.Prelude.{◌≡◌};
-ghost use Rattle.frames.specs.Frames.{digit_of, hex_of, byte_of, pair_of, alone_of, meaning_of, frame_at};
+ghost use Rattle.frames.specs.Frames.{digit_of, hex_of, byte_of, pair_of, meaning_of, frame_at};
 
 use station::Step;
 
 // A frame's line: six characters and a line feed.
 pub const FRAME_BYTES: usize = 7;
 
-const LINE_FEED: u8 = 10;
+const LINE_FEED: u8 = b'\n';
 
 // The kind of the first frame.
-const OPEN: u8 = 240;
+const OPEN: u8 = 0xF0;
 
-#[derive(Clone, Copy)]
-pub enum Byte {
-    Value(u8),
-    Bad,
-}
-
-#[derive(Clone, Copy)]
+#[derive(Clone, Copy, Debug, PartialEq, Eq)]
 pub enum Frame {
     Open(usize),
     Move(Step),
-    Bad,
 }
 
 // The two characters of a byte.
-#[derive(Clone, Copy)]
+#[derive(Clone, Copy, Debug, PartialEq, Eq)]
 pub struct Pair {
     pub high: u8,
     pub low: u8,
 }
 
-// The value of a digit, 16 of any other character.
+// The value of a digit; by hand, since the library's digits are lower case too.
 #[tactic(auto, unfolding(crate::specs::Frames::digit_of))]
-fn digit(character: u8) -> u8
+fn digit(character: u8) -> Option<u8>
     ensures { result ≡ digit_of character }
 {
-    if character < b'0' {
-        return 16;
+    match character {
+        b'0'..=b'9' => Some(character - b'0'),
+        b'A'..=b'F' => Some(character - b'A' + 10),
+        _ => None,
     }
-    if character <= b'9' {
-        return character - b'0';
-    }
-    if character < b'A' {
-        return 16;
-    }
-    if character <= b'F' {
-        return character - b'A' + 10;
-    }
-    16
 }
 
-// The byte that a pair of characters says.
-#[tactic(auto, unfolding(crate::specs::Frames::byte_of))]
-pub fn byte_of(high: u8, low: u8) -> Byte
+// The byte that two characters say; a function of the two, as the theorem `ReadsBack` has it.
+#[tactic(auto, unfolding(crate::specs::Frames::byte_of, crate::specs::Frames::digit_of))]
+pub fn byte_of(high: u8, low: u8) -> Option<u8>
     ensures { result ≡ byte_of high low }
 {
-    let h = digit(high);
-    let l = digit(low);
-    if h < 16 {
-        if l < 16 {
-            return Byte::Value(h * 16 + l);
-        }
-    }
-    Byte::Bad
+    let high = digit(high)?;
+    let low = digit(low)?;
+    Some(high * 16 + low)
 }
 
-// The character of a digit; of a larger number, that of its last digit.
+// The character of a digit; of a larger number, that of its last digit. By hand: the library formats into a writer, and `pair_of` is of two bytes.
 #[tactic(auto, unfolding(crate::specs::Frames::hex_of))]
 fn hex_of(value: u8) -> u8
     ensures { result ≡ hex_of value }
 {
     let last = value % 16;
     if last < 10 {
-        return last + b'0';
-    }
-    last + b'A' - 10
-}
-
-// The pair of characters that says a byte.
-#[tactic(auto, unfolding(crate::specs::Frames::pair_of))]
-pub fn pair_of(byte: u8) -> Pair
-    ensures { result ≡ pair_of byte }
-{
-    Pair {
-        high: hex_of(byte / 16),
-        low: hex_of(byte),
+        last + b'0'
+    } else {
+        last + b'A' - 10
     }
 }
 
-// What a frame says whose other byte is 00.
-#[tactic(auto, unfolding(crate::specs::Frames::alone_of))]
-fn alone(kind: u8, s: usize) -> Frame
-    ensures { result ≡ alone_of kind s }
-{
-    if kind == OPEN {
-        return Frame::Open(s);
+impl From<u8> for Pair {
+    ghost from_gives = { λ byte pair. pair ≡ pair_of byte };
+
+    // The pair of characters that says a byte.
+    #[tactic(auto, unfolding(crate::specs::Frames::pair_of))]
+    fn from(byte: u8) -> Pair {
+        Pair {
+            high: hex_of(byte / 16),
+            low: hex_of(byte),
+        }
     }
-    if kind == 0 {
-        return Frame::Move(Step::Ask(s));
-    }
-    if kind == 1 {
-        return Frame::Move(Step::Send(s));
-    }
-    if kind == 2 {
-        return Frame::Move(Step::Enter(s));
-    }
-    if kind == 3 {
-        return Frame::Move(Step::Leave(s));
-    }
-    if kind == 4 {
-        return Frame::Move(Step::Give(s));
-    }
-    Frame::Bad
 }
 
-// What the three bytes of a frame say.
-#[tactic(auto, unfolding(crate::specs::Frames::meaning_of))]
-pub fn meaning_of(kind: u8, station: u8, other: u8) -> Frame
+// What the three bytes of a frame say; by their names and not as one array, as the theorem `ReadsBack` has them.
+#[tactic(auto, unfolding(crate::specs::Frames::meaning_of, crate::specs::Frames::alone_of))]
+pub fn meaning_of(kind: u8, station: u8, other: u8) -> Option<Frame>
     ensures { result ≡ meaning_of kind station other }
 {
     let s = station as usize;
     let t = other as usize;
-    if kind == 5 {
-        return Frame::Move(Step::TakeRequest(s, t));
+    match (kind, other) {
+        (OPEN, 0) => Some(Frame::Open(s)),
+        (0, 0) => Some(Frame::Move(Step::Ask(s))),
+        (1, 0) => Some(Frame::Move(Step::Send(s))),
+        (2, 0) => Some(Frame::Move(Step::Enter(s))),
+        (3, 0) => Some(Frame::Move(Step::Leave(s))),
+        (4, 0) => Some(Frame::Move(Step::Give(s))),
+        (5, _) => Some(Frame::Move(Step::TakeRequest(s, t))),
+        (6, _) => Some(Frame::Move(Step::TakeAnswer(s, t))),
+        _ => None,
     }
-    if kind == 6 {
-        return Frame::Move(Step::TakeAnswer(s, t));
-    }
-    if t == 0 {
-        return alone(kind, s);
-    }
-    Frame::Bad
 }
 
-// The frame whose line starts at `at`. A line that ends early, or has no line feed after its six characters, is a bad one.
+// The frame whose line starts at `at`. A line that ends early, or has no line feed after its six characters, has none.
 #[tactic(auto, unfolding(crate::specs::Frames::frame_at, crate::specs::Frames::of_bytes))]
-pub fn frame_at(input: &[u8], at: usize) -> Frame
+pub fn frame_at(input: &[u8], at: usize) -> Option<Frame>
     ensures { result ≡ frame_at input.now at }
 {
-    if input.len() < at {
-        return Frame::Bad;
-    }
-    if input.len() - at < FRAME_BYTES {
-        return Frame::Bad;
-    }
-    if input[at + 6] != LINE_FEED {
-        return Frame::Bad;
-    }
-    let Byte::Value(kind) = byte_of(input[at], input[at + 1]) else {
-        return Frame::Bad;
+    let line = input.get(at..)?.get(..FRAME_BYTES)?;
+    let &[
+        kind_high,
+        kind_low,
+        station_high,
+        station_low,
+        other_high,
+        other_low,
+        LINE_FEED,
+    ] = line
+    else {
+        return None;
     };
-    let Byte::Value(station) = byte_of(input[at + 2], input[at + 3]) else {
-        return Frame::Bad;
-    };
-    let Byte::Value(other) = byte_of(input[at + 4], input[at + 5]) else {
-        return Frame::Bad;
-    };
+    let kind = byte_of(kind_high, kind_low)?;
+    let station = byte_of(station_high, station_low)?;
+    let other = byte_of(other_high, other_low)?;
     meaning_of(kind, station, other)
 }

@@ -1,52 +1,46 @@
-// A network that goes by value: the table is made here, lent to the crate table's own functions, and given back.
+// A network that is owned and not lent: its count and its table travel together, and the crate table's own functions work on the table.
 #![tactic(auto)]
 
-ghost use Rattle.std.specs.Prelude.{◌≡◌};
-ghost use Rattle.network.specs.Network.{opened_for, stepped_by};
+ghost use Rattle.network.specs.Network.{OpensNetwork, StepsNetwork};
 
-use station::{Head, STATIONS, Station, Step};
+use station::{Head, Refusal, STATIONS, Station, Step};
 
-// A table by value, and the code of its opening.
+// A network: how many stations it has, and their records. Any count and any records, since a step answers for each (`StepsNetwork`).
 #[derive(Clone, Copy)]
-pub struct Opened {
-    pub code: u8,
+pub struct Network {
+    pub count: usize,
     pub table: [Station; STATIONS],
 }
 
-// A table by value after a step: the code, the head of the station that the step names, and the station in Holding.
+// What a step answers, and what is to be seen after it: the head of the station that the step names, and the station in Holding.
 #[derive(Clone, Copy)]
 pub struct Stepped {
-    pub code: u8,
+    pub answer: Result<(), Refusal>,
     pub head: Head,
-    pub holder: usize,
-    pub table: [Station; STATIONS],
+    pub holder: Option<usize>,
 }
 
-// Opens a table of its own, so that a caller needs none to lend.
-pub fn open(n: usize) -> Opened
-    ensures { result ≡ opened_for n }
-{
-    let mut table = [form::new_station(); STATIONS];
-    let code = table::open(&mut table, n);
-    Opened {
-        code: code,
-        table: table,
+impl Network {
+    // Opens a table of its own, so that a caller needs none to lend.
+    #[tactic(auto, unfolding(crate::specs::Network::opened_for, table::specs::Table::open_after))]
+    pub fn open(count: usize) -> Result<Network, Refusal>
+        ensures { OpensNetwork count result }
+    {
+        let mut table = [form::new_station(); STATIONS];
+        table::open(&mut table, count)?;
+        Ok(Network { count, table })
     }
-}
 
-// One step: the table is lent to `table::step`, and then read.
-#[tactic(auto, unfolding(crate::specs::Network::stepped_by))]
-pub fn step(table: [Station; STATIONS], n: usize, step: Step) -> Stepped
-    ensures { result ≡ stepped_by table n step }
-{
-    let mut lent = table;
-    let code = table::step(&mut lent, n, step);
-    let head = table::head_of(&lent, station::named_by(step));
-    let holder = table::holder_of(&lent);
-    Stepped {
-        code: code,
-        head: head,
-        holder: holder,
-        table: lent,
+    // One step: the table is lent to `table::step`, and then read.
+    #[tactic(auto, unfolding(crate::specs::Network::stepped_by))]
+    pub fn step(&mut self, step: Step) -> Stepped
+        ensures { StepsNetwork self.old step result self.new }
+    {
+        let answer = table::step(&mut self.table, self.count, step);
+        Stepped {
+            answer,
+            head: table::head_of(&self.table, station::named_by(step)),
+            holder: table::holder_of(&self.table),
+        }
     }
 }

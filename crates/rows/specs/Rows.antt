@@ -1,5 +1,5 @@
 -- The seven steps of 01, on the head of the named station, its cells `mine` for one peer, and that peer's cells `theirs` for it.
-use Rattle.std.specs.Prelude.{ℕ, ◌+◌, ◌-◌, Bool, true, false, cond, nat_eq, nat_lt}
+use Rattle.std.specs.Prelude.{ℕ, ◌+◌, ◌-◌, Bool, true, false, cond, Result, Ok, Err, nat_eq, nat_lt}
 use Rattle.station.specs.declared.Head.{Head}
 use Rattle.station.specs.declared.Cells.{Cells}
 use Rattle.station.specs.declared.Step.{Step}
@@ -7,7 +7,10 @@ use Rattle.station.specs.declared.Step.TheVariants.{Ask, Send, Enter, Leave, Giv
 use Rattle.station.specs.Names.{IDLE, SENDING, WAITING, HOLDING, GIVING, LAST_NUMBER, ACCEPTED, NOT_WELL_FORMED, NO_SUCH_STATION, WRONG_PLACE, ANSWERS_DUE, EMPTY_WIRE, NO_NUMBER_LEFT, AT_ODDS}
 use Rattle.station.specs.Stations.{count_ok, stations_ok, is_asking}
 use Rattle.station.specs.Setters.{with_place, with_own, with_high, with_next, with_due, with_request, with_answer, with_mark}
-use Rattle.rows.specs.declared.Outcome.{Outcome}
+use Rattle.station.specs.declared.codes.Refusal.{Refusal}
+use Rattle.station.specs.declared.codes.Refusal.TheVariants.{AtOdds}
+use Rattle.station.specs.Codes.{code_of}
+use Rattle.rows.specs.declared.Reach.{Reach}
 
 -- ---- which of two requests goes first
 -- 01, step 5: "the request's number is below s's own, or when the two are equal and t < s"
@@ -19,9 +22,21 @@ unfoldable pub answers_now : ℕ → ℕ → ℕ → ℕ → ℕ → Bool
 answers_now request t place own s = cond (is_asking place) (goes_first request t own s) true
 
 -- ---- what comes out of a step
--- a code with a head and two cells: those that the row's effect leaves under code 0, those that went in under any other
+-- a code with a head and two cells
+pub record Outcome : Type 0 where
+  pub code : ℕ
+  pub head : Head
+  pub mine : Cells
+  pub theirs : Cells
+
+-- one of them: those that the row's effect leaves under code 0, those that went in under any other
 abbrev pub outcome_of : ℕ → Head → Cells → Cells → Outcome
 outcome_of code head mine theirs = record { code = code; head = head; mine = mine; theirs = theirs }
+
+-- what a function answers, as an outcome: a refusal leaves what went in
+abbrev pub told : Reach → Result Reach Refusal → Outcome
+told was (Ok now) = outcome_of ACCEPTED now.head now.mine now.theirs
+told was (Err refusal) = outcome_of (code_of {A = Reach} (Err refusal)) was.head was.mine was.theirs
 
 -- 01, steps 1 and 4: "then p + 1, or after p = N place .. with p = 1"
 unfoldable pub onward : ℕ → Head → ℕ → Head
@@ -34,6 +49,10 @@ larger a b = cond (nat_lt a b) b a
 -- the head with its highest seen so raised
 unfoldable pub raised : Head → ℕ → Head
 raised head request = with_high (larger head.high request) head
+
+-- 01, steps 4 and 5: the answer on its wire; 01, code 8: "the wire that the step must fill is occupied"
+unfoldable pub answered : Cells → Result Cells Refusal
+answered cells = cond cells.answer (Err AtOdds) (Ok (with_answer true cells))
 
 -- ---- the rows
 -- 01, step 0: "Idle: own number = highest seen + 1; due = N − 1; p = 1; place Sending; highest seen unchanged"

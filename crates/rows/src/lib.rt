@@ -2,238 +2,288 @@
 #![tactic(auto)]
 
 ghost use Rattle.std.specs.Prelude.{◌≡◌, true, ◌≤◌};
-ghost use Rattle.station.specs.Stations.{count_ok, stations_ok};
-ghost use Rattle.rows.specs.Rows.{goes_first, answers_now, outcome_of, onward, larger, ask_rule, send_rule, enter_rule, leave_rule, give_rule, take_request_rule, take_answer_rule, step_rule, outcome};
+ghost use Rattle.station.specs.Stations.{stations_ok};
+ghost use Rattle.station.specs.Places.{place_number};
+ghost use Rattle.rows.specs.Rows.{goes_first, answers_now, onward, told, answered, ask_rule, send_rule, enter_rule, leave_rule, give_rule, take_request_rule, take_answer_rule, step_rule, outcome};
 
-use station::{
-    ACCEPTED, ANSWERS_DUE, AT_ODDS, Cells, EMPTY_WIRE, GIVING, HOLDING, Head, IDLE, LAST_NUMBER,
-    NO_NUMBER_LEFT, NO_SUCH_STATION, NOT_WELL_FORMED, SENDING, Step, WAITING, WRONG_PLACE,
-};
+use station::{Cells, Count, Head, LAST_NUMBER, Place, Refusal, Step};
 
-// What a step makes of the named station's head, its cells for the peer, and the peer's cells for it.
+// What a step reads and may change: the named station's head, its cells for the peer, and the peer's cells for it.
 #[derive(Clone, Copy)]
-pub struct Outcome {
-    pub code: u8,
+pub struct Reach {
     pub head: Head,
     pub mine: Cells,
     pub theirs: Cells,
 }
 
-// Whether station t's request goes before station s's own number.
+// A request: its number, and the station that asks, which decides between equal numbers.
+#[derive(Clone, Copy, PartialEq, Eq, PartialOrd, Ord)]
+struct Request {
+    number: u16,
+    station: usize,
+    ghost is_station: { (1 ≤ station) × (station ≤ 32) },
+}
+
+// Whether a request goes before the own one of a station.
 #[tactic(auto, unfolding(crate::specs::Rows::goes_first))]
-fn goes_first(request: u16, t: usize, own: u16, s: usize) -> bool
-    requires { ((1 ≤ t) × (t ≤ 32)) × ((1 ≤ s) × (s ≤ 32)) }
-    ensures { result ≡ goes_first request t own s }
+fn goes_first(request: Request, own: Request) -> bool
+    ensures { result ≡ goes_first request.number request.station own.number own.station }
 {
-    if request == own {
-        return t < s;
-    }
     request < own
 }
 
 #[tactic(auto, unfolding(crate::specs::Rows::answers_now))]
-fn answers_now(request: u16, t: usize, place: u8, own: u16, s: usize) -> bool
-    requires { ((1 ≤ t) × (t ≤ 32)) × ((1 ≤ s) × (s ≤ 32)) }
-    ensures { result ≡ answers_now request t place own s }
+fn answers_now(request: Request, place: u8, own: Request) -> bool
+    ensures { result ≡ answers_now request.number request.station place own.number own.station }
 {
-    if station::is_asking(place) {
-        return goes_first(request, t, own, s);
-    }
-    true
-}
-
-#[tactic(auto, unfolding(crate::specs::Rows::larger))]
-fn the_larger(a: u16, b: u16) -> u16
-    ensures { result ≡ larger a b }
-{
-    if a < b { b } else { a }
-}
-
-fn outcome_of(code: u8, head: Head, mine: Cells, theirs: Cells) -> Outcome
-    ensures { result ≡ outcome_of code head mine theirs }
-{
-    Outcome {
-        code: code,
-        head: head,
-        mine: mine,
-        theirs: theirs,
-    }
+    !station::is_asking(place) || goes_first(request, own)
 }
 
 // On to the next peer, or after the last one to the place `then`.
 #[tactic(auto, unfolding(crate::specs::Rows::onward))]
-fn go_onward(n: usize, head: Head, then: u8) -> Head
-    requires { n ≤ 32 }
-    ensures { result ≡ onward n head then }
+fn go_onward(n: Count, head: Head, then: Place) -> Head
+    ensures { result ≡ onward n.value head (place_number then) }
 {
-    let mut moved = head;
-    if (head.next as usize) < n {
-        moved.next = head.next + 1;
-        return moved;
+    if (head.next as usize) < n.value {
+        Head {
+            next: head.next + 1,
+            ..head
+        }
+    } else {
+        Head {
+            next: 1,
+            place: then as u8,
+            ..head
+        }
     }
-    moved.next = 1;
-    moved.place = then;
-    moved
+}
+
+// The cells with an answer put on the wire, which has one slot.
+#[tactic(auto, unfolding(crate::specs::Rows::answered))]
+fn answer(cells: Cells) -> Result<Cells, Refusal>
+    ensures { result ≡ answered cells }
+{
+    if cells.answer {
+        return Err(Refusal::AtOdds);
+    }
+    Ok(Cells {
+        answer: true,
+        ..cells
+    })
 }
 
 #[tactic(auto, unfolding(crate::specs::Rows::ask_rule))]
-fn ask(n: usize, head: Head, mine: Cells, theirs: Cells) -> Outcome
-    requires { (2 ≤ n) × (n ≤ 32) }
-    ensures { result ≡ ask_rule n head mine theirs }
+fn ask(n: Count, reach: Reach) -> Result<Reach, Refusal>
+    ensures { told reach result ≡ ask_rule n.value reach.head reach.mine reach.theirs }
 {
-    if head.place != IDLE {
-        return outcome_of(WRONG_PLACE, head, mine, theirs);
+    let head = reach.head;
+    if !head.is_in(Place::Idle) {
+        return Err(Refusal::WrongPlace);
     }
     if head.high == LAST_NUMBER {
-        return outcome_of(NO_NUMBER_LEFT, head, mine, theirs);
+        return Err(Refusal::NoNumberLeft);
     }
-    let mut asked = head;
-    asked.own = head.high + 1;
-    asked.due = (n - 1) as u8;
-    asked.next = 1;
-    asked.place = SENDING;
-    outcome_of(ACCEPTED, asked, mine, theirs)
+    let asked = Head {
+        place: Place::Sending as u8,
+        own: head.high + 1,
+        due: (n.value - 1) as u8,
+        next: 1,
+        ..head
+    };
+    Ok(Reach {
+        head: asked,
+        ..reach
+    })
 }
 
 #[tactic(auto, unfolding(crate::specs::Rows::send_rule))]
-fn send(n: usize, s: usize, head: Head, mine: Cells, theirs: Cells) -> Outcome
-    requires { n ≤ 32 }
-    ensures { result ≡ send_rule n s head mine theirs }
+fn send(n: Count, s: usize, reach: Reach) -> Result<Reach, Refusal>
+    ensures { told reach result ≡ send_rule n.value s reach.head reach.mine reach.theirs }
 {
-    if head.place != SENDING {
-        return outcome_of(WRONG_PLACE, head, mine, theirs);
+    let head = reach.head;
+    if !head.is_in(Place::Sending) {
+        return Err(Refusal::WrongPlace);
     }
+    let sent = Reach {
+        head: go_onward(n, head, Place::Waiting),
+        ..reach
+    };
     if head.next as usize == s {
-        return outcome_of(ACCEPTED, go_onward(n, head, WAITING), mine, theirs);
+        return Ok(sent);
     }
-    if theirs.request != 0 {
-        return outcome_of(AT_ODDS, head, mine, theirs);
+    if reach.theirs.request != 0 {
+        return Err(Refusal::AtOdds);
     }
-    let mut filled = theirs;
-    filled.request = head.own;
-    outcome_of(ACCEPTED, go_onward(n, head, WAITING), mine, filled)
+    let filled = Cells {
+        request: head.own,
+        ..reach.theirs
+    };
+    Ok(Reach {
+        theirs: filled,
+        ..sent
+    })
 }
 
 #[tactic(auto, unfolding(crate::specs::Rows::enter_rule))]
-fn enter(head: Head, mine: Cells, theirs: Cells) -> Outcome
-    ensures { result ≡ enter_rule head mine theirs }
+fn enter(reach: Reach) -> Result<Reach, Refusal>
+    ensures { told reach result ≡ enter_rule reach.head reach.mine reach.theirs }
 {
-    if head.place != WAITING {
-        return outcome_of(WRONG_PLACE, head, mine, theirs);
+    let head = reach.head;
+    if !head.is_in(Place::Waiting) {
+        return Err(Refusal::WrongPlace);
     }
     if head.due != 0 {
-        return outcome_of(ANSWERS_DUE, head, mine, theirs);
+        return Err(Refusal::AnswersDue);
     }
-    let mut entered = head;
-    entered.place = HOLDING;
-    outcome_of(ACCEPTED, entered, mine, theirs)
+    let entered = Head {
+        place: Place::Holding as u8,
+        ..head
+    };
+    Ok(Reach {
+        head: entered,
+        ..reach
+    })
 }
 
 #[tactic(auto, unfolding(crate::specs::Rows::leave_rule))]
-fn leave(head: Head, mine: Cells, theirs: Cells) -> Outcome
-    ensures { result ≡ leave_rule head mine theirs }
+fn leave(reach: Reach) -> Result<Reach, Refusal>
+    ensures { told reach result ≡ leave_rule reach.head reach.mine reach.theirs }
 {
-    if head.place != HOLDING {
-        return outcome_of(WRONG_PLACE, head, mine, theirs);
+    let head = reach.head;
+    if !head.is_in(Place::Holding) {
+        return Err(Refusal::WrongPlace);
     }
-    let mut left = head;
-    left.place = GIVING;
-    left.next = 1;
-    outcome_of(ACCEPTED, left, mine, theirs)
+    let left = Head {
+        place: Place::Giving as u8,
+        next: 1,
+        ..head
+    };
+    Ok(Reach {
+        head: left,
+        ..reach
+    })
 }
 
-#[tactic(auto, unfolding(crate::specs::Rows::give_rule))]
-fn give(n: usize, head: Head, mine: Cells, theirs: Cells) -> Outcome
-    requires { n ≤ 32 }
-    ensures { result ≡ give_rule n head mine theirs }
+#[tactic(auto, unfolding(crate::specs::Rows::give_rule, crate::specs::Rows::answered))]
+fn give(n: Count, reach: Reach) -> Result<Reach, Refusal>
+    ensures { told reach result ≡ give_rule n.value reach.head reach.mine reach.theirs }
 {
-    if head.place != GIVING {
-        return outcome_of(WRONG_PLACE, head, mine, theirs);
+    let head = reach.head;
+    if !head.is_in(Place::Giving) {
+        return Err(Refusal::WrongPlace);
     }
-    if mine.mark {
-        if theirs.answer {
-            return outcome_of(AT_ODDS, head, mine, theirs);
-        }
-        let mut cleared = mine;
-        cleared.mark = false;
-        let mut answered = theirs;
-        answered.answer = true;
-        return outcome_of(ACCEPTED, go_onward(n, head, IDLE), cleared, answered);
+    let gave = Reach {
+        head: go_onward(n, head, Place::Idle),
+        ..reach
+    };
+    if !reach.mine.mark {
+        return Ok(gave);
     }
-    outcome_of(ACCEPTED, go_onward(n, head, IDLE), mine, theirs)
+    let cleared = Cells {
+        mark: false,
+        ..reach.mine
+    };
+    Ok(Reach {
+        mine: cleared,
+        theirs: answer(reach.theirs)?,
+        ..gave
+    })
 }
 
-#[tactic(auto, unfolding(crate::specs::Rows::take_request_rule, crate::specs::Rows::raised))]
-fn take_request(s: usize, t: usize, head: Head, mine: Cells, theirs: Cells) -> Outcome
+#[tactic(auto, unfolding(crate::specs::Rows::take_request_rule, crate::specs::Rows::raised, crate::specs::Rows::larger, crate::specs::Rows::answered))]
+fn take_request(s: usize, t: usize, reach: Reach) -> Result<Reach, Refusal>
     requires { ((1 ≤ t) × (t ≤ 32)) × ((1 ≤ s) × (s ≤ 32)) }
-    ensures { result ≡ take_request_rule s t head mine theirs }
+    ensures { told reach result ≡ take_request_rule s t reach.head reach.mine reach.theirs }
 {
+    let Reach { head, mine, theirs } = reach;
     if mine.request == 0 {
-        return outcome_of(EMPTY_WIRE, head, mine, theirs);
+        return Err(Refusal::EmptyWire);
     }
-    let mut raised = head;
-    raised.high = the_larger(head.high, mine.request);
-    let mut taken = mine;
-    taken.request = 0;
-    if answers_now(mine.request, t, head.place, head.own, s) {
-        if theirs.answer {
-            return outcome_of(AT_ODDS, head, mine, theirs);
-        }
-        let mut answered = theirs;
-        answered.answer = true;
-        return outcome_of(ACCEPTED, raised, taken, answered);
+    let raised = Head {
+        high: head.high.max(mine.request),
+        ..head
+    };
+    let taken = Cells { request: 0, ..mine };
+    let request = Request {
+        number: mine.request,
+        station: t,
+    };
+    let own = Request {
+        number: head.own,
+        station: s,
+    };
+    if answers_now(request, head.place, own) {
+        return Ok(Reach {
+            head: raised,
+            mine: taken,
+            theirs: answer(theirs)?,
+        });
     }
     if mine.mark {
-        return outcome_of(AT_ODDS, head, mine, theirs);
+        return Err(Refusal::AtOdds);
     }
-    taken.mark = true;
-    outcome_of(ACCEPTED, raised, taken, theirs)
+    let marked = Cells {
+        mark: true,
+        ..taken
+    };
+    Ok(Reach {
+        head: raised,
+        mine: marked,
+        theirs,
+    })
 }
 
 #[tactic(auto, unfolding(crate::specs::Rows::take_answer_rule))]
-fn take_answer(head: Head, mine: Cells, theirs: Cells) -> Outcome
-    ensures { result ≡ take_answer_rule head mine theirs }
+fn take_answer(reach: Reach) -> Result<Reach, Refusal>
+    ensures { told reach result ≡ take_answer_rule reach.head reach.mine reach.theirs }
 {
-    if mine.answer {
-        if head.due == 0 {
-            return outcome_of(AT_ODDS, head, mine, theirs);
-        }
-        let mut counted = head;
-        counted.due = head.due - 1;
-        let mut taken = mine;
-        taken.answer = false;
-        return outcome_of(ACCEPTED, counted, taken, theirs);
+    let Reach { head, mine, theirs } = reach;
+    if !mine.answer {
+        return Err(Refusal::EmptyWire);
     }
-    outcome_of(EMPTY_WIRE, head, mine, theirs)
+    if head.due == 0 {
+        return Err(Refusal::AtOdds);
+    }
+    let counted = Head {
+        due: head.due - 1,
+        ..head
+    };
+    let taken = Cells {
+        answer: false,
+        ..mine
+    };
+    Ok(Reach {
+        head: counted,
+        mine: taken,
+        theirs,
+    })
 }
 
-// The row of a step whose count and stations are in range.
-#[tactic(auto, unfolding(crate::specs::Rows::step_rule, station::specs::Stations::stations_ok))]
-fn work(n: usize, step: Step, head: Head, mine: Cells, theirs: Cells) -> Outcome
-    requires { (count_ok n ≡ true) × (stations_ok n step ≡ true) }
-    ensures { result ≡ step_rule n step head mine theirs }
+// The row of a step whose stations are there. 01 has the step as an enum of seven, so this is a match.
+#[tactic(auto, unfolding(crate::specs::Rows::step_rule, station::specs::Stations::stations_ok, station::specs::Stations::is_station))]
+fn work(n: Count, step: Step, reach: Reach) -> Result<Reach, Refusal>
+    requires { stations_ok n.value step ≡ true }
+    ensures { told reach result ≡ step_rule n.value step reach.head reach.mine reach.theirs }
 {
     match step {
-        Step::Ask(_) => ask(n, head, mine, theirs),
-        Step::Send(s) => send(n, s, head, mine, theirs),
-        Step::Enter(_) => enter(head, mine, theirs),
-        Step::Leave(_) => leave(head, mine, theirs),
-        Step::Give(_) => give(n, head, mine, theirs),
-        Step::TakeRequest(s, t) => take_request(s, t, head, mine, theirs),
-        Step::TakeAnswer(_, _) => take_answer(head, mine, theirs),
+        Step::Ask(_) => ask(n, reach),
+        Step::Send(s) => send(n, s, reach),
+        Step::Enter(_) => enter(reach),
+        Step::Leave(_) => leave(reach),
+        Step::Give(_) => give(n, reach),
+        Step::TakeRequest(s, t) => take_request(s, t, reach),
+        Step::TakeAnswer(_, _) => take_answer(reach),
     }
 }
 
 // The step on the head of the station that it names, that station's cells for the peer, and the peer's cells for it.
 #[tactic(auto, unfolding(crate::specs::Rows::outcome))]
-pub fn act(n: usize, step: Step, head: Head, mine: Cells, theirs: Cells) -> Outcome
-    ensures { result ≡ outcome n step head mine theirs }
+pub fn act(n: usize, step: Step, reach: Reach) -> Result<Reach, Refusal>
+    ensures { told reach result ≡ outcome n step reach.head reach.mine reach.theirs }
 {
-    if station::count_ok(n) {
-        if station::stations_ok(n, step) {
-            return work(n, step, head, mine, theirs);
-        }
-        return outcome_of(NO_SUCH_STATION, head, mine, theirs);
+    let count = Count::new(n).ok_or(Refusal::NotWellFormed)?;
+    if !station::stations_ok(n, step) {
+        return Err(Refusal::NoSuchStation);
     }
-    outcome_of(NOT_WELL_FORMED, head, mine, theirs)
+    work(count, step, reach)
 }

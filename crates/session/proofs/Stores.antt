@@ -1,10 +1,12 @@
--- Laws of stores that follow one another, and the nine stores of a line.
-use Prim.Native.Nat.{ℕ, suc, ◌+◌}
+-- Laws of stores that follow one another, and the store of a line.
+use Prim.Native.Nat.{ℕ, suc, ◌+◌, ◌≤◌}
 use mathlib.Core.Path.{◌≡◌, refl, sym, ◌∙◌, ap}
 use mathlib.Core.List.{List, [], ◌∷◌, ◌++◌}
 use native.Mathlib.Omega.{arith}
 use lib.ListN.{length, set}
-use lib.Seq.{sets}
+use lib.Seq.{sets, sets-eq}
+use borrow.Rule.Slice.PartMut.{put_mid}
+use Rattle.std.proofs.lemmas.Slice.{put_mid-paste}
 use Rattle.session.specs.Session.{pair_line, line_of}
 
 -- two runs of stores, the second where the first ends, are one
@@ -17,29 +19,16 @@ pub sets_next :
     (a b l : List ℕ) (i j : ℕ) → j ≡ i + length a → sets (sets l i a) j b ≡ sets l i (a ++ b)
 sets_next a b l i j e = rw e (sym (sets_append a b l i))
 
-pair_length : (value : ℕ) → length (pair_line value) ≡ 2
-unfolding pair_line
-pair_length value = refl
-
 pub line_length : (code place due held : ℕ) → length (line_of code place due held) ≡ 9
 unfolding line_of pair_line
 line_length code place due held = refl
 
--- the four pairs and the line feed, stored one after another
+-- a line stored as one piece, as a copy into a part of the output leaves it
 pub line_stored :
-    (l : List ℕ) (i code place due held : ℕ) →
-    set
-    (sets (sets (sets (sets l i (pair_line code)) (i + 2) (pair_line place)) (i + 4) (pair_line due)) (i + 6) (pair_line held))
-    (i + 8)
-    10
-    ≡ sets l i (line_of code place due held)
-unfolding line_of
-line_stored l i code place due held =
-    let c = pair_length code in
-    let p = pair_length place in
-    let d = pair_length due in
-    let h = pair_length held in
-    sets_next (pair_line held) (10 ∷ []) _ (i + 6) (i + 8) (omega arith)
-    ∙ sets_next (pair_line due) _ _ (i + 4) (i + 6) (omega arith)
-    ∙ sets_next (pair_line place) _ _ (i + 2) (i + 4) (omega arith)
-    ∙ sets_next (pair_line code) _ l i (i + 2) (omega arith)
+    (l new : List ℕ) (i k code place due held : ℕ) →
+    new ≡ line_of code place due held → k ≡ 9 → i + 9 ≤ length l →
+    put_mid i k l new ≡ sets l i (line_of code place due held)
+unfolding line_of pair_line
+line_stored l new i k code place due held e nine fits =
+    put_mid-paste i k l new (line_of code place due held) 9 e (sym nine) refl
+    ∙ sym (sets-eq (line_of code place due held) l i fits)

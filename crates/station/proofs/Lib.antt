@@ -1,2 +1,3 @@
 -- The laws that stand beside the functions' own proofs.
 pub mod Laws
+pub mod Tells

@@ -2,3 +2,6 @@
 pub mod Names
 pub mod Stations
 pub mod Setters
+pub mod Places
+pub mod Codes
+pub mod Counts

@@ -1,4 +1,4 @@
--- The numbers that 01 gives to places and codes, by the names that the source has for them.
+-- The numbers that 01 gives to places and codes, by their names.
 use Rattle.std.specs.Prelude.{ℕ}
 
 -- 01, "The table": "place: 0 Idle, 1 Sending, 2 Waiting, 3 Holding, 4 Giving"

@@ -1,5 +1,6 @@
 -- Which stations there are, and which of them a step names.
-use Rattle.std.specs.Prelude.{ℕ, ◌-◌, min, Bool, not, ◌&&◌, nat_eq, nat_le}
+use Rattle.std.specs.Prelude.{ℕ, ◌-◌, min, Bool, not, ◌&&◌, nat_eq, nat_le, List, ◌++◌, codes}
+use Rattle.std.specs.Fmt.{decimal}
 use Rattle.station.specs.declared.Step.{Step}
 use Rattle.station.specs.declared.Step.TheVariants.{Ask, Send, Enter, Leave, Give, TakeRequest, TakeAnswer}
 use Rattle.station.specs.Names.{SENDING, HOLDING, STATIONS}
@@ -49,3 +50,13 @@ index_of s = min (s - 1) (STATIONS - 1)
 -- 01, "The table": "A station is asking when it is in Sending, Waiting or Holding"
 unfoldable pub is_asking : ℕ → Bool
 is_asking place = nat_le SENDING place && nat_le place HOLDING
+
+-- a step in words, by the names of 01's "The seven steps"
+abbrev pub words_of_step : Step → List ℕ
+words_of_step (Ask s) = codes "Ask " ++ decimal s
+words_of_step (Send s) = codes "Send " ++ decimal s
+words_of_step (Enter s) = codes "Enter " ++ decimal s
+words_of_step (Leave s) = codes "Leave " ++ decimal s
+words_of_step (Give s) = codes "Give " ++ decimal s
+words_of_step (TakeRequest s t) = codes "Take request " ++ decimal s ++ codes " from " ++ decimal t
+words_of_step (TakeAnswer s t) = codes "Take answer " ++ decimal s ++ codes " from " ++ decimal t

@@ -12,9 +12,9 @@ use Rattle.station.specs.declared.Step.{Step}
 use Rattle.station.specs.declared.Step.TheVariants.{Ask, Send, Enter, Leave, Give, TakeRequest, TakeAnswer}
 use Rattle.station.specs.Names.{IDLE, SENDING, WAITING, HOLDING, GIVING, LAST_NUMBER, STATIONS, ACCEPTED}
 use Rattle.station.specs.Stations.{count_ok, is_station, stations_ok, index_of}
-use Rattle.station.proofs.Laws.{by_test, count_range, station_range, two_stations}
-use Rattle.rows.specs.declared.Outcome.{Outcome}
-use Rattle.rows.specs.Rows.{outcome_of, answers_now, onward, raised, ask_rule, send_rule, enter_rule, leave_rule, give_rule, take_request_rule, take_answer_rule, step_rule, outcome}
+use Rattle.std.proofs.lemmas.Bool.{cond_both}
+use Rattle.station.proofs.Laws.{count_range, station_range, two_stations}
+use Rattle.rows.specs.Rows.{Outcome, outcome_of, answers_now, onward, raised, ask_rule, send_rule, enter_rule, leave_rule, give_rule, take_request_rule, take_answer_rule, step_rule, outcome}
 use Rattle.form.specs.Form.{head_ok, new_head, in_use, cell_ok}
 use Rattle.table.proofs.Heads.{Stands, stands, formed}
 use Rattle.table.proofs.Wires.{in_use_between, in_use_back, used_ok, marked_in_use}
@@ -58,13 +58,13 @@ module _ (n s v : ℕ) (head : Head) (mine theirs : Cells) (was : Fits n s v (ou
     ask_fits : P (ask_rule n head mine theirs)
     unfolding ask_rule
     ask_fits =
-        by_test P (eqb head.place IDLE) (λ _. by_test P (eqb head.high LAST_NUMBER) (λ _. same _) (λ _. moved _ (omega arith))) (λ _. same _)
+        cond_both (eqb head.place IDLE) _ _ P (λ _. cond_both (eqb head.high LAST_NUMBER) _ _ P (λ _. same _) (λ _. moved _ (omega arith))) (λ _. same _)
 
     enter_fits : P (enter_rule head mine theirs)
     unfolding enter_rule
     enter_fits =
-        by_test P (eqb head.place WAITING)
-        (λ e. by_test P (eqb head.due 0)
+        cond_both (eqb head.place WAITING) _ _ P
+        (λ e. cond_both (eqb head.due 0) _ _ P
         (λ z. let k = in_place WAITING e in moved _ (omega (arith, eqb-true head.due 0 z)))
         (λ _. same _))
         (λ _. same _)
@@ -72,14 +72,14 @@ module _ (n s v : ℕ) (head : Head) (mine theirs : Cells) (was : Fits n s v (ou
     leave_fits : P (leave_rule head mine theirs)
     unfolding leave_rule
     leave_fits =
-        by_test P (eqb head.place HOLDING) (λ e. let k = in_place HOLDING e in moved _ (omega arith)) (λ _. same _)
+        cond_both (eqb head.place HOLDING) _ _ P (λ e. let k = in_place HOLDING e in moved _ (omega arith)) (λ _. same _)
 
     onward_fits : (here then : ℕ) → eqb head.place here ≡ true
         → (head.next < n → Stands n here (head.next + 1) head.due head.own) → Stands n then 1 head.due head.own
         → Standing n (onward n head then)
     unfolding onward
     onward_fits here then e on past =
-        by_test (Standing n) (ltb head.next n)
+        cond_both (ltb head.next n) _ _ (Standing n)
         (λ l. rw (eqb-true head.place here e) (on (ltb-true head.next n l)))
         (λ _. past)
 
@@ -92,15 +92,15 @@ module _ (n s v : ℕ) (head : Head) (mine theirs : Cells) (was : Fits n s v (ou
       send_fits : P (send_rule n s head mine theirs)
       unfolding send_rule
       send_fits =
-          by_test P (eqb head.place SENDING)
+          cond_both (eqb head.place SENDING) _ _ P
           (λ e.
           let k = in_place SENDING e in
           let on = onward_fits SENDING WAITING e (λ l. omega arith) (omega arith) in
-          by_test P (eqb head.next s) (λ _. moved _ on)
+          cond_both (eqb head.next s) _ _ P (λ _. moved _ on)
           (λ d.
           let there = next_there k.next_low k.next_high in
           let other = eqb-false head.next s d in
-          by_test P (eqb theirs.request 0)
+          cond_both (eqb theirs.request 0) _ _ P
           (λ _. between (in_use_between n s v here (omega arith) (λ z. other (omega arith))) _ _ _ on)
           (λ _. same _)))
           (λ _. same _)
@@ -108,12 +108,12 @@ module _ (n s v : ℕ) (head : Head) (mine theirs : Cells) (was : Fits n s v (ou
       give_fits : P (give_rule n head mine theirs)
       unfolding give_rule
       give_fits =
-          by_test P (eqb head.place GIVING)
+          cond_both (eqb head.place GIVING) _ _ P
           (λ e.
           let k = in_place GIVING e in
           let on = onward_fits GIVING IDLE e (λ l. omega arith) (omega arith) in
-          by_test P mine.mark
-          (λ m. by_test P theirs.answer (λ _. same _) (λ _. between (marked_in_use n s v mine was.mine m) _ _ _ on))
+          cond_both mine.mark _ _ P
+          (λ m. cond_both theirs.answer _ _ P (λ _. same _) (λ _. between (marked_in_use n s v mine was.mine m) _ _ _ on))
           (λ _. moved _ on))
           (λ _. same _)
 
@@ -128,15 +128,15 @@ module _ (n s v : ℕ) (head : Head) (mine theirs : Cells) (was : Fits n s v (ou
       take_request_fits : (t : ℕ) → P (take_request_rule s t head mine theirs)
       unfolding take_request_rule raised
       take_request_fits t =
-          by_test P (eqb mine.request 0) (λ _. same _)
-          (λ _. by_test P (answers_now mine.request t head.place head.own s)
-          (λ _. by_test P theirs.answer (λ _. same _) (λ _. between used _ _ _ ok))
-          (λ _. by_test P mine.mark (λ _. same _) (λ _. between used _ _ _ ok)))
+          cond_both (eqb mine.request 0) _ _ P (λ _. same _)
+          (λ _. cond_both (answers_now mine.request t head.place head.own s) _ _ P
+          (λ _. cond_both theirs.answer _ _ P (λ _. same _) (λ _. between used _ _ _ ok))
+          (λ _. cond_both mine.mark _ _ P (λ _. same _) (λ _. between used _ _ _ ok)))
 
       take_answer_fits : P (take_answer_rule head mine theirs)
       unfolding take_answer_rule
       take_answer_fits =
-          by_test P mine.answer (λ _. by_test P (eqb head.due 0) (λ _. same _) (λ _. between used _ _ _ (omega (arith, ok)))) (λ _. same _)
+          cond_both mine.answer _ _ P (λ _. cond_both (eqb head.due 0) _ _ P (λ _. same _) (λ _. between used _ _ _ (omega (arith, ok)))) (λ _. same _)
 
 -- ---- each step by its row, at the indices of its station and of its peer
 module _ (n : ℕ) (count : count_ok n ≡ true) where
@@ -178,6 +178,6 @@ pub outcome_fits : (n : ℕ) (x : Step) (head : Head) (mine theirs : Cells)
     → Fits n (1 + seat x) (1 + seat_of x head.next) (outcome n x head mine theirs)
 unfolding outcome
 outcome_fits n x head mine theirs was =
-    by_test (Fits n _ _) (count_ok n)
-    (λ count. by_test (Fits n _ _) (stations_ok n x) (λ ok. step_fits n count head mine theirs x ok was) (λ _. same n _ _ head mine theirs was _))
+    cond_both (count_ok n) _ _ (Fits n _ _)
+    (λ count. cond_both (stations_ok n x) _ _ (Fits n _ _) (λ ok. step_fits n count head mine theirs x ok was) (λ _. same n _ _ head mine theirs was _))
     (λ _. same n _ _ head mine theirs was _)

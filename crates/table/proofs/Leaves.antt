@@ -10,9 +10,8 @@ use Rattle.station.specs.declared.Step.{Step}
 use Rattle.station.specs.declared.Step.TheVariants.{Ask, Send, Enter, Leave, Give, TakeRequest, TakeAnswer}
 use Rattle.station.specs.Names.{ACCEPTED, IDLE, SENDING, WAITING, HOLDING, GIVING, LAST_NUMBER}
 use Rattle.station.specs.Stations.{count_ok, stations_ok}
-use Rattle.station.proofs.Laws.{by_test}
-use Rattle.rows.specs.declared.Outcome.{Outcome}
-use Rattle.rows.specs.Rows.{outcome_of, answers_now, ask_rule, send_rule, enter_rule, leave_rule, give_rule, take_request_rule, take_answer_rule, step_rule, outcome}
+use Rattle.std.proofs.lemmas.Bool.{cond_both}
+use Rattle.rows.specs.Rows.{Outcome, outcome_of, answers_now, ask_rule, send_rule, enter_rule, leave_rule, give_rule, take_request_rule, take_answer_rule, step_rule, outcome}
 
 module _ (head : Head) (mine theirs : Cells) where
   pub record Leaves (out : Outcome) : Type 0 where
@@ -26,7 +25,7 @@ module _ (head : Head) (mine theirs : Cells) where
   taken = record { byte = omega arith; same = λ no. absurd (true≢false no) }
 
   either : (b : Bool) {x y : Outcome} → Leaves x → Leaves y → Leaves (cond b x y)
-  either b p q = by_test Leaves b (λ _. p) (λ _. q)
+  either b p q = cond_both b _ _ Leaves (λ _. p) (λ _. q)
 
   row_leaves : (n : ℕ) (x : Step) → Leaves (step_rule n x head mine theirs)
   unfolding step_rule ask_rule send_rule enter_rule leave_rule give_rule take_request_rule take_answer_rule

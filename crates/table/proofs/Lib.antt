@@ -8,3 +8,4 @@ pub mod Wires
 pub mod Fits
 pub mod Records
 pub mod Kept
+pub mod Holders

@@ -1,15 +1,17 @@
 -- The records of a table in form: what the scan over them says of each, and that another head or other cells in form leave them so.
 use mathlib.Core.Path.{◌≡◌, refl}
-use mathlib.Core.Bool.{true, and-eq-true_iff}
-use mathlib.Core.List.{List, [], ◌∷◌}
-use Prim.Native.Nat.{ℕ, zero, suc, ◌+◌, ◌≤◌, ◌<◌}
+use mathlib.Core.Bool.{true}
+use mathlib.Core.List.{List}
+use Prim.Native.Nat.{ℕ, ◌+◌, ◌<◌}
 use native.Mathlib.Omega.{arith}
 use native.Mathlib.Decide.{dec_lt}
 use lib.ListN.{length, get_or, length-set}
+use Rattle.std.proofs.lemmas.Bool.{and_parts}
+use Rattle.std.proofs.lemmas.List.{get_or_past}
 use Rattle.station.specs.declared.Head.{Head}
 use Rattle.station.specs.declared.Cells.{Cells}
 use Rattle.station.specs.declared.Station.{Station}
-use Rattle.rows.specs.declared.Outcome.{Outcome}
+use Rattle.rows.specs.Rows.{Outcome}
 use Rattle.form.specs.Form.{new_cells, cell_ok, cells_ok, record_ok}
 use Rattle.walks.proofs.Along.{Scan, scan_at, scan_set}
 use Rattle.form.proofs.Scans.{cells_scan}
@@ -21,18 +23,13 @@ pub records_scan : (n : ℕ) → Scan (record_ok n) (records_ok n)
 unfolding records_ok
 records_scan n = record { none = λ _. refl; some = λ _ _ _. refl }
 
-past_end : {A : Type 0} (l : List A) (i : ℕ) (d : A) → length l ≤ i → get_or l i d ≡ d
-past_end [] i d h = refl
-past_end (x ∷ l) zero d h = absurd (omega arith)
-past_end (x ∷ l) (suc i) d h = past_end l i d (omega arith)
-
 module _ (n : ℕ) (t : List Station) (all : records_ok n 1 t ≡ true) (i : ℕ) (l : i < length t) where
   abbrev r : Station
   r = get_or t i no_station
 
   parts : (front_ok n (1 + i) r.head ≡ true) × (cells_ok n (1 + i) 1 r.cells ≡ true)
   unfolding record_ok
-  parts = (and-eq-true_iff (front_ok n (1 + i) r.head) _).0 (scan_at (records_scan n) no_station 1 t i l all)
+  parts = and_parts (front_ok n (1 + i) r.head) _ (scan_at (records_scan n) no_station 1 t i l all)
 
   pub head_ok_in : front_ok n (1 + i) (head_in t i) ≡ true
   head_ok_in = parts.0
@@ -40,7 +37,7 @@ module _ (n : ℕ) (t : List Station) (all : records_ok n 1 t ≡ true) (i : ℕ
   pub cells_ok_in : (j : ℕ) → cell_ok n (1 + i) (1 + j) (cells_in t i j) ≡ true
   cells_ok_in j = elim (dec_lt j (length r.cells)) [
     | yes m ↦ scan_at (cells_scan n (1 + i)) new_cells 1 r.cells j m parts.1
-    | no m ↦ rw (past_end r.cells j new_cells (omega arith)) (new_ok n (1 + i) (1 + j))
+    | no m ↦ rw (get_or_past r.cells j new_cells (omega arith)) (new_ok n (1 + i) (1 + j))
   ]
 
   head_put : (h : Head) → front_ok n (1 + i) h ≡ true → records_ok n 1 (put_head t i h) ≡ true

@@ -7,8 +7,7 @@ use lib.Dec.{eqb}
 use Rattle.station.specs.declared.Station.{Station}
 use Rattle.station.specs.declared.Step.{Step}
 use Rattle.station.specs.Names.{ACCEPTED}
-use Rattle.rows.specs.declared.Outcome.{Outcome}
-use Rattle.rows.specs.Rows.{outcome_of}
+use Rattle.rows.specs.Rows.{Outcome, outcome_of}
 use Rattle.table.proofs.Leaves.{outcome_leaves}
 use Rattle.table.specs.Table.{head_in, cells_in, put_cells, outcome_at, landed}
 use Rattle.table.proofs.InTable.{head_same, cells_same}

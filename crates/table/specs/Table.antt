@@ -1,13 +1,12 @@
 -- The rules of the table: a code and a table for any table, any count and any step. The contracts, the run and the demands all speak of these.
-use Rattle.std.specs.Prelude.{ℕ, ◌+◌, ◌-◌, ◌≡◌, Bool, true, cond, ◌&&◌, List, [], ◌∷◌, nat_eq, length, slice_index_or, set, replicate}
+use Rattle.std.specs.Prelude.{ℕ, ◌+◌, ◌-◌, ◌≡◌, Bool, true, cond, ◌&&◌, Option, None, Some, zero, suc, List, [], ◌∷◌, nat_eq, length, slice_index_or, set, replicate}
 use Rattle.station.specs.declared.Head.{Head}
 use Rattle.station.specs.declared.Cells.{Cells}
 use Rattle.station.specs.declared.Station.{Station}
 use Rattle.station.specs.declared.Step.{Step}
 use Rattle.station.specs.Names.{HOLDING, STATIONS, ACCEPTED, BAD_COUNT, NOT_WELL_FORMED}
 use Rattle.station.specs.Stations.{count_ok, is_station, named_by, peer_of, index_of}
-use Rattle.rows.specs.declared.Outcome.{Outcome}
-use Rattle.rows.specs.Rows.{outcome}
+use Rattle.rows.specs.Rows.{Outcome, outcome}
 use Rattle.form.specs.Form.{new_cells, new_station, record_ok}
 
 -- ---- what a table holds
@@ -123,6 +122,11 @@ pub record ActsTo (n : ℕ) (x : Step) (i j : ℕ) (t : List Station) (code : �
 unfoldable pub holder_from : ℕ → List Station → ℕ
 holder_from s [] = 0
 holder_from s (r ∷ rs) = cond (nat_eq r.head.place HOLDING) s (holder_from (s + 1) rs)
+
+-- "00 for none": that number as a station or none
+abbrev pub in_holding : ℕ → Option ℕ
+in_holding zero = None
+in_holding (suc s) = Some (suc s)
 
 -- the records count from station 1
 abbrev pub holder : List Station → ℕ

@@ -1,43 +1,31 @@
--- What goes along a list and counts: def s xs is about the elements xs, the first of them number s.
---     FromHere, one_on, at_end     in a loop at index i: what is said of the elements from there on is what is said of all; at the next index; past the last one
+-- What goes along a list and counts: f s xs is about the elements xs, the first of them number s.
 --     Scan             a test f of a list that puts the test g to each element, with its number
---     scan_on, scan_end    such a test in a loop, at an element whose own test is known, and past the last one
 --     scan_at, scan_set, scan_all      what it says of one element; with another element put there; and of a list of one element over and over
+--     scan_chain       what `.iter().enumerate().all(..)` answers over a slice, where its closure puts g to each element with its number
 use mathlib.Core.Path.{◌≡◌, sym, ap, ◌∙◌}
-use Prim.Native.Nat.{ℕ, zero, suc, ◌+◌, ◌≤◌, ◌<◌}
+use Prim.Native.Nat.{ℕ, zero, suc, ◌+◌, ◌<◌}
 use native.Mathlib.Omega.{arith}
 use native.Mathlib.Nat.{add-zero}
-use native.Mathlib.Numerals.{add-one}
 use mathlib.Core.Bool.{Bool, true, ◌&&◌, and-eq-true_iff}
 use mathlib.Core.List.{List, [], ◌∷◌}
-use lib.ListN.{length, get_or, set, replicate, drop, drop_of_length-le}
-use lib.Seq.{drop-cons}
-
-module _ {X R : Type 0} (def : ℕ → List X → R) (t : List X) (i : ℕ) where
-  abbrev pub FromHere : Type 0
-  FromHere = def (i + 1) (drop i t) ≡ def 1 t
-
-  pub one_on : (more : ℕ → X → R → R) → ((s : ℕ) (r : X) (rs : List X) → def s (r ∷ rs) ≡ more s r (def (s + 1) rs)) → (d : X) → i < length t → FromHere
-      → more (i + 1) (get_or t i d) (def (i + 1 + 1) (drop (i + 1) t)) ≡ def 1 t
-  one_on more cons d l here =
-      ap (λ (k : ℕ). more (i + 1) (get_or t i d) (def (i + 1 + 1) (drop k t))) (add-one i)
-      ∙ sym (ap (def (i + 1)) (drop-cons t i d l) ∙ cons (i + 1) (get_or t i d) (drop (suc i) t)) ∙ here
-
-  pub at_end : length t ≤ i → FromHere → def (i + 1) [] ≡ def 1 t
-  at_end l here = sym (ap (def (i + 1)) (drop_of_length-le t l)) ∙ here
+use lib.ListN.{length, get_or, set, replicate}
+use denote.Ref.{Bor}
+use denote.Param.Members.{Mut}
+use Rattle.std.proofs.iter.Yields.{fronts}
+use Rattle.std.proofs.lemmas.Iterator.{YieldsList-from_slice}
+use Rattle.std.proofs.lemmas.Iterator.Consumers.{YieldsList-from_enumerate, YieldsList-at}
+use Rattle.std.proofs.lemmas.Iterator.Search.{all_from_yields_List}
+use Rattle.std.specs.Fn.{Called}
+use Rattle.std.specs.Iterator.{ChecksAll}
+use Rattle.std.specs.Iterator.Adapters.{enumerate_source, enumerate_count, enumerate_steps}
+use Rattle.std.specs.List.{list_all, enumerate_from}
+use Rattle.std.specs.Slice.Iter.{iter_rest}
 
 pub record Scan {A : Type 0} (g : ℕ → A → Bool) (f : ℕ → List A → Bool) : Type 0 where
   pub none : (s : ℕ) → f s [] ≡ true
   pub some : (s : ℕ) (x : A) (xs : List A) → f s (x ∷ xs) ≡ (g s x && f (s + 1) xs)
 
 module _ {A : Type 0} {g : ℕ → A → Bool} {f : ℕ → List A → Bool} (scan : Scan g f) where
-  pub scan_on : (d : A) (t : List A) (i : ℕ) (fits : Bool) → i < length t → g (i + 1) (get_or t i d) ≡ fits → FromHere f t i
-      → (fits && f (i + 1 + 1) (drop (i + 1) t)) ≡ f 1 t
-  scan_on d t i fits l e here = rw e at (one_on f t i (λ s x rest. g s x && rest) scan.some d l here)
-
-  pub scan_end : (t : List A) (i : ℕ) → length t ≤ i → FromHere f t i → true ≡ f 1 t
-  scan_end t i l here = sym (scan.none (i + 1)) ∙ at_end f t i l here
-
   first_passes : (s : ℕ) (x : A) (xs : List A) → f s (x ∷ xs) ≡ true → (g s x ≡ true) × (f (s + 1) xs ≡ true)
   first_passes s x xs e = (and-eq-true_iff (g s x) (f (s + 1) xs)).0 (sym (scan.some s x xs) ∙ e)
 
@@ -61,3 +49,15 @@ module _ {A : Type 0} {g : ℕ → A → Bool} {f : ℕ → List A → Bool} (sc
   pub scan_all : (m s : ℕ) (x : A) → ((u : ℕ) → g u x ≡ true) → f s (replicate m x) ≡ true
   scan_all zero s x h = scan.none s
   scan_all (suc m) s x h = scan.some s x (replicate m x) ∙ rw (h s, scan_all m (s + 1) x h)
+
+  along : (k : ℕ) (xs : List A) → list_all (λ (p : ℕ × A). g (p.0 + 1) p.1) (enumerate_from k xs) ≡ f (k + 1) xs
+  along k [] = sym (scan.none (k + 1))
+  along k (x ∷ xs) = ap (λ b. g (k + 1) x && b) (along (k + 1) xs) ∙ sym (scan.some (k + 1) x xs)
+
+  pub scan_chain : {F : Type 0} {calls : Mut F ((ℕ × Bor A) × Unit {0}) Bool} {from s u : _} {test : F} {r : Bool} {t : List A}
+      → iter_rest from ≡ t → enumerate_source s ≡ from → enumerate_count s ≡ 0 → ChecksAll (enumerate_steps fronts) calls s test r u
+      → ((p : ℕ × Bor A) (b : Bool) (q : F) → Called calls test (p, tt) b q → (q ≡ test) × (b ≡ g (p.0 + 1) p.1.now)) → r ≡ f 1 t
+  scan_chain {u = u} {test = test} {r = r} {t = t} rest source count ran asks =
+      all_from_yields_List (λ (p : ℕ × A). g (p.0 + 1) p.1) u test r ran
+      (YieldsList-from_enumerate (YieldsList-at source (YieldsList-from_slice t rest)) count) asks
+      ∙ along 0 t

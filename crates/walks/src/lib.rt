@@ -1,2 +1,2 @@
-// No code: proofs/ has the laws of a walk along a list, as a loop over an array or a slice takes it. They know nothing of stations.
+// No code: proofs/ has the laws of a walk along a list, as a chain over a slice takes it, and as a loop by index does. They know nothing of stations.
 #![tactic(auto)]

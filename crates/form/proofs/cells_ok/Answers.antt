@@ -1,19 +1,9 @@
--- One cell more: its own test decides whether the rest are asked.
-use Rattle.std.proofs.Common.{true, false, arith, sym, ◌∙◌}
-use Rattle.form.specs.Form.{new_cells}
-use Rattle.walks.proofs.Along.{scan_on, scan_end}
+-- The chain asks each cell with its number, as the definition does.
+use Rattle.std.proofs.Common.{rules}
+use Rattle.walks.proofs.Along.{scan_chain}
 use Rattle.form.proofs.Scans.{cells_scan}
 use Rattle.form.proofs.cells_ok.Goals as goal
 
-pub loop-j-preserved : goal.loop-j-preserved
-loop-j-preserved c = record {
-  within = omega arith;
-  cells = c.loop-j.invariant.cells;
-  here = scan_on (cells_scan _ _) new_cells _ _ true (omega arith) (sym c.cell_ok.ensures ∙ c.if-cell_ok.true) c.loop-j.invariant.here;
-}
-
-pub returns-else-cell_ok : goal.returns-else-cell_ok
-returns-else-cell_ok c = scan_on (cells_scan _ _) new_cells _ _ false (omega arith) (sym c.cell_ok.ensures ∙ c.if-cell_ok.false) c.loop-j.invariant.here
-
 pub returns : goal.returns
-returns c = scan_end (cells_scan _ _) c.args.station.cells c.loop-j.j (omega arith) c.loop-j.invariant.here
+returns c =
+    scan_chain (cells_scan _ _) c.iter.ensures.rest c.enumerate.ensures.source c.enumerate.ensures.count c.all.ensures.ran (λ p b q called. search rules)

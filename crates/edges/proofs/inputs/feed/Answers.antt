@@ -1,0 +1,7 @@
+-- The output has the most room that a run needs.
+use Rattle.std.proofs.Common.{arith}
+use Rattle.session.proofs.Whole.{ran_some}
+use Rattle.edges.proofs.inputs.feed.Goals as goal
+
+pub unwrap-count-requires : goal.unwrap-count-requires
+unwrap-count-requires g c = ran_some _ _ _ _ c.run.ensures (omega arith)

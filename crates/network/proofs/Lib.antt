@@ -1,0 +1,2 @@
+-- What opening does to new records.
+pub mod Opens
