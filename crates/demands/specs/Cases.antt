@@ -6,7 +6,9 @@ use Rattle.station.specs.declared.Cells.{Cells}
 use Rattle.station.specs.declared.Station.{Station}
 use Rattle.station.specs.declared.Step.{Step}
 use Rattle.station.specs.declared.Step.TheVariants.{Ask, Send, Enter, TakeRequest, TakeAnswer}
-use Rattle.station.specs.Names.{IDLE, SENDING, WAITING, ACCEPTED, BAD_COUNT, NOT_WELL_FORMED, NO_SUCH_STATION, WRONG_PLACE, EMPTY_WIRE, NO_NUMBER_LEFT, AT_ODDS}
+use Rattle.station.specs.Names.{SENDING, WAITING, ACCEPTED, BAD_COUNT, NOT_WELL_FORMED, NO_SUCH_STATION, WRONG_PLACE, EMPTY_WIRE, NO_NUMBER_LEFT, AT_ODDS}
+use Rattle.station.specs.Setters.{with_place, with_own, with_high, with_next, with_due, with_request}
+use Rattle.form.specs.Form.{new_cells, new_station}
 use Rattle.table.specs.Table.{no_station, head_in, cells_in, put_head, put_cells, opened, open_answer, open_after, answer, after}
 use Rattle.runs.specs.ShortRuns.{tie}
 use Rattle.engines.specs.Engines.{ours, table_after}
@@ -66,16 +68,11 @@ kept_unless code t u = cond (nat_eq code ACCEPTED) true (same same_station t u)
 -- ---- the tables that cases start from
 -- "Fresh but highest seen of 1 is ..": 0 is the index of station 1
 abbrev pub fresh_with_high : ℕ → List Station
-fresh_with_high seen = put_head opened 0 (record { place = IDLE; own = 0; high = seen; next = 1; due = 0 })
+fresh_with_high seen = put_head opened 0 (with_high seen new_station.head)
 
 -- "Doctored, N = 2, station 1 Sending, p = 2, own 1, due 1, request 1 to 2 already there"
 abbrev pub doctored : List Station
-doctored =
-    put_cells (put_head opened 0 (record { place = SENDING; own = 1; high = 0; next = 2; due = 1 })) 1 0 (record {
-      request = 1;
-      answer = false;
-      mark = false;
-    })
+doctored = put_cells (put_head opened 0 (with_place SENDING (with_own 1 (with_next 2 (with_due 1 new_station.head))))) 1 0 (with_request 1 new_cells)
 
 -- ---- the cases
 -- the code is the one given, a refusal keeps the table, and the fields are met; an opening is tried over records that are not new ones, so that one that wrote would show

@@ -7,7 +7,7 @@ abbrev pub bit : Bool → ℕ
 bit true = 1
 bit false = 0
 
--- i : [1..N]
+-- i : [1..N], as a fact, where `is_node` is the test
 pub record In (N i : ℕ) : Type 0 where
   pub low : 1 ≤ i
   pub high : i ≤ N

@@ -50,7 +50,7 @@ put₂ f s t v i j = cond (nat_eq i s && nat_eq j t) v (f i j)
 abbrev pub send : (ℕ → ℕ → List ℕ) → ℕ → ℕ → ℕ → ℕ → ℕ → List ℕ
 send ch s t e = put₂ ch s t (ch s t ++ (e ∷ []))
 
--- "ch[s, t] ⇒ x": x, and the channel without it
+-- "ch[s, t] ⇒ x": x, the oldest message
 abbrev pub first : List ℕ → ℕ
 first [] = 0
 first (x ∷ q) = x
