@@ -21,7 +21,7 @@ use Rattle.rows.specs.declared.Reach.{Reach}
 use Rattle.rows.specs.Rows.{Outcome, told, outcome}
 use Rattle.network.specs.declared.Network.{Network}
 use Rattle.network.specs.declared.Stepped.{Stepped}
-use Rattle.network.specs.Network.{OpensNetwork, StepsNetwork}
+use Rattle.network.specs.Network.{FreshNetwork, OpensNetwork, StepsNetwork}
 use Rattle.session.specs.Session.{Ran}
 use Rattle.demands.specs.OneOutcome.{Fixes, OneOutcome}
 
@@ -55,14 +55,15 @@ act n x reach a b p q = same a b (p ∙ sym q)
     same (Err r) (Ok v) e = absurd (omega (arith, refusal_above r, ap (λ (o : Outcome). o.code) e))
     same (Err r) (Err s) e = ap Err (refusal_tells r s (ap (λ (o : Outcome). o.code) e))
 
+fresh_network : (n : ℕ) → Fixes {A = Network} (λ r. FreshNetwork n r)
+fresh_network n a b p q = λ i. record { count = (p.0 ∙ sym q.0) i; table = (p.1 ∙ sym q.1) i }
+
 open_network : (n : ℕ) → Fixes {A = Result Network Refusal} (λ r. OpensNetwork n r)
 open_network n a b p q = answer_tells a b same (p.answers ∙ sym q.answers)
   where
     same : (x y : Network) → a ≡ Ok x → b ≡ Ok y → x ≡ y
     same x y f g =
-        let u = rw f at p.leaves in
-        let v = rw g at q.leaves in
-        λ i. record { count = (u.0 ∙ sym v.0) i; table = (u.1 ∙ sym v.1) i }
+        fresh_network n x y (rw f at p.leaves) (rw g at q.leaves)
 
 step_network : (was : Network) (x : Step) → Fixes {A = Stepped × Network} (λ o. StepsNetwork was x o.0 o.1)
 step_network was x a b p q =
@@ -102,6 +103,7 @@ one_outcome = record {
   pair_of = λ byte. equation _;
   meaning_of = λ kind station other. equation _;
   frame_at = λ input at. equation _;
+  fresh_network = fresh_network;
   open_network = open_network;
   step_network = step_network;
   room_for = λ len most a b p q. equation _ a b p.room q.room;

@@ -20,7 +20,7 @@ use Rattle.frames.specs.declared.Frame.{Frame}
 use Rattle.frames.specs.Frames.{byte_of, pair_of, meaning_of, frame_at}
 use Rattle.network.specs.declared.Network.{Network}
 use Rattle.network.specs.declared.Stepped.{Stepped}
-use Rattle.network.specs.Network.{OpensNetwork, StepsNetwork}
+use Rattle.network.specs.Network.{FreshNetwork, OpensNetwork, StepsNetwork}
 use Rattle.session.specs.Session.{RoomFor, Ran}
 
 -- 01, "Contracts that admit one outcome": "any two results allowed by it are equal"
@@ -59,6 +59,7 @@ pub record OneOutcome : Type 0 where
   pub meaning_of : (kind station other : ℕ) → Fixes {A = Option Frame} (λ r. r ≡ meaning_of kind station other)
   pub frame_at : (input : List ℕ) (at : ℕ) → Fixes {A = Option Frame} (λ r. r ≡ frame_at input at)
   -- network
+  pub fresh_network : (n : ℕ) → Fixes {A = Network} (λ r. FreshNetwork n r)
   pub open_network : (n : ℕ) → Fixes {A = Result Network Refusal} (λ r. OpensNetwork n r)
   pub step_network : (was : Network) (x : Step) → Fixes {A = Stepped × Network} (λ o. StepsNetwork was x o.0 o.1)
   -- session; of `run` the outcome is the count and the whole output buffer

@@ -1,7 +1,8 @@
 // The form of one record: as opening writes it, and as 01 asks of it in a table. It is asked of any count n, station s and peer t, so these are plain numbers.
 #![tactic(auto)]
 
-ghost use Rattle.std.specs.Prelude.{◌≡◌};
+ghost use Rattle.std.specs.Prelude.{◌≡◌, ◌-◌, take, drop};
+ghost use Rattle.std.specs.List.{list_all};
 ghost use Rattle.form.specs.Form.{new_station, empty_cells, in_use, cell_ok, cells_ok, next_ok, due_ok, own_ok, head_ok, new_head, record_ok};
 
 use station::{Cells, Head, Place, STATIONS, Station};
@@ -25,13 +26,6 @@ pub fn new_station() -> Station
     }
 }
 
-#[tactic(auto, unfolding(crate::specs::Form::in_use))]
-fn in_use(n: usize, s: usize, t: usize) -> bool
-    ensures { result ≡ in_use n s t }
-{
-    s <= n && t <= n && s != t
-}
-
 #[tactic(auto, unfolding(crate::specs::Form::empty_cells))]
 fn are_empty(cells: Cells) -> bool
     ensures { result ≡ empty_cells cells }
@@ -39,19 +33,40 @@ fn are_empty(cells: Cells) -> bool
     cells == Cells::default()
 }
 
-#[tactic(auto, unfolding(crate::specs::Form::cell_ok))]
-fn cell_ok(n: usize, s: usize, t: usize, cells: Cells) -> bool
-    ensures { result ≡ cell_ok n s t cells }
+// Whether all of some cells are empty. A fold, and no `all`: it goes on past one that is not, and so asks many at once.
+fn are_all_empty(all: &[Cells]) -> bool
+    ensures { result ≡ list_all empty_cells all.now }
 {
-    in_use(n, s, t) || are_empty(cells)
+    all.iter()
+        .fold(true, |empty, cells| empty & are_empty(*cells))
 }
 
+// Whether the cells of station s for itself are empty, where there are such.
+#[tactic(auto, using(crate::proofs::Scans::own_cut))]
+fn are_own_empty(s: usize, all: &[Cells]) -> bool
+    ensures { result ≡ list_all empty_cells (take (s - (s - 1)) (drop (s - 1) all.now)) }
+{
+    let len = all.len();
+    are_all_empty(&all[s.saturating_sub(1).min(len)..s.min(len)])
+}
+
+// Whether the cells for peers above n are empty.
+#[tactic(auto, using(crate::proofs::Scans::rest_cut))]
+fn are_empty_above(n: usize, all: &[Cells]) -> bool
+    ensures { result ≡ list_all empty_cells (drop n all.now) }
+{
+    are_all_empty(&all[n.min(all.len())..])
+}
+
+// The cells of station s among n: those for itself and for peers above n are empty; in a record above n all are.
+#[tactic(auto, using(crate::proofs::Scans::cells_unused, crate::proofs::Scans::cells_used))]
 fn cells_ok(n: usize, s: usize, all: &[Cells]) -> bool
     ensures { result ≡ cells_ok n s 1 all.now }
 {
-    all.iter()
-        .enumerate()
-        .all(|(j, cells)| cell_ok(n, s, j + 1, *cells))
+    if n < s {
+        return are_all_empty(all);
+    }
+    are_own_empty(s, all) && are_empty_above(n, all)
 }
 
 #[tactic(auto, unfolding(crate::specs::Form::next_ok))]

@@ -19,10 +19,14 @@ pub record OpeningTold : Type 0 where
 unfoldable pub opened_for : ℕ → OpeningTold
 opened_for n = record { code = open_answer n opened; table = opened }
 
--- what `open` promises: that code, and where it is 0 that table with the count
+-- that table with a count beside it, any count: what `fresh` promises
+abbrev pub FreshNetwork : ℕ → Network → Type 0
+FreshNetwork n new = (new.count ≡ n) × (new.table ≡ (opened_for n).table)
+
+-- what `open` promises: that code, and where it is 0 that network
 pub record OpensNetwork (n : ℕ) (r : Result Network Refusal) : Type 0 where
   pub answers : code_of r ≡ (opened_for n).code
-  pub leaves : IfOk r (λ new. (new.count ≡ n) × (new.table ≡ (opened_for n).table))
+  pub leaves : IfOk r (FreshNetwork n)
 
 -- a step as 01 tells it: a code, the head of the named station after the step, the station in Holding (0: none), and the table
 pub record StepTold : Type 0 where

@@ -1,7 +1,7 @@
 // A network that is owned and not lent: its count and its table travel together, and the crate table's own functions work on the table.
 #![tactic(auto)]
 
-ghost use Rattle.network.specs.Network.{OpensNetwork, StepsNetwork};
+ghost use Rattle.network.specs.Network.{FreshNetwork, OpensNetwork, StepsNetwork};
 
 use station::{Head, Refusal, STATIONS, Station, Step};
 
@@ -21,14 +21,25 @@ pub struct Stepped {
 }
 
 impl Network {
+    // The records that an opening writes, with any count beside them; with one that `open` refuses, each step is refused.
+    #[tactic(auto, unfolding(crate::specs::Network::opened_for, table::specs::Table::opened))]
+    pub fn fresh(count: usize) -> Network
+        ensures { FreshNetwork count result }
+    {
+        Network {
+            count,
+            table: [form::new_station(); STATIONS],
+        }
+    }
+
     // Opens a table of its own, so that a caller needs none to lend.
     #[tactic(auto, unfolding(crate::specs::Network::opened_for, table::specs::Table::open_after))]
     pub fn open(count: usize) -> Result<Network, Refusal>
         ensures { OpensNetwork count result }
     {
-        let mut table = [form::new_station(); STATIONS];
-        table::open(&mut table, count)?;
-        Ok(Network { count, table })
+        let mut network = Network::fresh(count);
+        table::open(&mut network.table, count)?;
+        Ok(network)
     }
 
     // One step: the table is lent to `table::step`, and then read.

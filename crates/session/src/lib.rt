@@ -13,6 +13,7 @@ use lines::Line;
 use network::Network;
 use station::Step;
 use stops::Stop;
+pub use stops::{BAD_FRAME, TOO_LONG};
 
 // The most bytes of input that a run takes.
 pub const INPUT_LIMIT: usize = 65536;

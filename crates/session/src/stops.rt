@@ -4,6 +4,11 @@ ghost use Rattle.session.specs.Session.{stop_code, RefusedAs};
 
 use station::Refusal;
 
+// The codes of a run that no step has.
+pub const BAD_FRAME: u8 = 9;
+
+pub const TOO_LONG: u8 = 10;
+
 #[derive(Clone, Copy)]
 pub(crate) enum Stop {
     Refused(Refusal),
@@ -26,8 +31,8 @@ impl From<Stop> for u8 {
     fn from(stop: Stop) -> u8 {
         match stop {
             Stop::Refused(refusal) => u8::from(refusal),
-            Stop::BadFrame => 9,
-            Stop::TooLong => 10,
+            Stop::BadFrame => BAD_FRAME,
+            Stop::TooLong => TOO_LONG,
         }
     }
 }

@@ -5,6 +5,9 @@ ghost use Rattle.station.specs.Codes.{refusal_code, words_of, code_of};
 use std::error::Error;
 use std::fmt;
 
+// The code of an answer that is no refusal.
+pub const ACCEPTED: u8 = 0;
+
 // Why an opening or a step is refused.
 #[derive(Clone, Copy, Debug, PartialEq, Eq)]
 pub enum Refusal {
@@ -50,7 +53,7 @@ pub fn code_of(answer: Result<(), Refusal>) -> u8
     ensures { result ≡ code_of answer }
 {
     match answer {
-        Ok(()) => 0,
+        Ok(()) => ACCEPTED,
         Err(refusal) => u8::from(refusal),
     }
 }

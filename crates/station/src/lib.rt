@@ -9,7 +9,7 @@ mod codes;
 mod counts;
 mod places;
 
-pub use codes::{Refusal, code_of};
+pub use codes::{ACCEPTED, Refusal, code_of};
 pub use counts::Count;
 pub use places::{NoSuchPlace, Place};
 use std::fmt;

@@ -13,7 +13,8 @@ use Rattle.station.specs.declared.Cells.{Cells}
 use Rattle.station.specs.declared.Station.{Station}
 use Rattle.rows.specs.Rows.{Outcome}
 use Rattle.form.specs.Form.{new_cells, cell_ok, cells_ok, record_ok}
-use Rattle.walks.proofs.Along.{Scan, scan_at, scan_set}
+use Rattle.walks.proofs.Along.{scan_at, scan_set}
+use Rattle.walks.specs.Walks.{Scan}
 use Rattle.form.proofs.Scans.{cells_scan}
 use Rattle.table.proofs.Wires.{new_ok}
 use Rattle.table.specs.Table.{no_station, head_in, cells_in, put_head, put_cells, records_ok, landed}

@@ -1,6 +1,5 @@
 -- What goes along a list and counts: f s xs is about the elements xs, the first of them number s.
---     Scan             a test f of a list that puts the test g to each element, with its number
---     scan_at, scan_set, scan_all      what it says of one element; with another element put there; and of a list of one element over and over
+--     scan_at, scan_set, scan_all      what a test of a list that puts another to each element, `Scan`, says of one element; with another element put there; and of a list of one element over and over
 --     scan_chain       what `.iter().enumerate().all(..)` answers over a slice, where its closure puts g to each element with its number
 use mathlib.Core.Path.{◌≡◌, sym, ap, ◌∙◌}
 use Prim.Native.Nat.{ℕ, zero, suc, ◌+◌, ◌<◌}
@@ -20,10 +19,7 @@ use Rattle.std.specs.Iterator.{ChecksAll}
 use Rattle.std.specs.Iterator.Adapters.{enumerate_source, enumerate_count, enumerate_steps}
 use Rattle.std.specs.List.{list_all, enumerate_from}
 use Rattle.std.specs.Slice.Iter.{iter_rest}
-
-pub record Scan {A : Type 0} (g : ℕ → A → Bool) (f : ℕ → List A → Bool) : Type 0 where
-  pub none : (s : ℕ) → f s [] ≡ true
-  pub some : (s : ℕ) (x : A) (xs : List A) → f s (x ∷ xs) ≡ (g s x && f (s + 1) xs)
+use Rattle.walks.specs.Walks.{Scan}
 
 module _ {A : Type 0} {g : ℕ → A → Bool} {f : ℕ → List A → Bool} (scan : Scan g f) where
   first_passes : (s : ℕ) (x : A) (xs : List A) → f s (x ∷ xs) ≡ true → (g s x ≡ true) × (f (s + 1) xs ≡ true)

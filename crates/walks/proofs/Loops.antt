@@ -1,5 +1,5 @@
 -- Laws of a loop by index along a list, for a step that no chain takes: def s xs is about the elements xs, the first of them number s.
---     FromHere, one_on, at_end     at index i: what is said of the elements from there on is what is said of all; at the next index; past the last one
+--     one_on, at_end     where what is said of the elements from index i on is what is said of all (`FromHere`): at the next index; past the last one
 --     scan_on, scan_end    a test of a list in such a loop, at an element whose own test is known, and past the last one
 use mathlib.Core.Path.{◌≡◌, sym, ap, ◌∙◌}
 use Prim.Native.Nat.{ℕ, suc, ◌+◌, ◌≤◌, ◌<◌}
@@ -8,19 +8,16 @@ use mathlib.Core.Bool.{Bool, true, ◌&&◌}
 use mathlib.Core.List.{List, [], ◌∷◌}
 use lib.ListN.{length, get_or, drop, drop_of_length-le}
 use lib.Seq.{drop-cons}
-use Rattle.walks.proofs.Along.{Scan}
+use Rattle.walks.specs.Walks.{FromHere, Scan}
 
 module _ {X R : Type 0} (def : ℕ → List X → R) (t : List X) (i : ℕ) where
-  abbrev pub FromHere : Type 0
-  FromHere = def (i + 1) (drop i t) ≡ def 1 t
-
-  pub one_on : (more : ℕ → X → R → R) → ((s : ℕ) (r : X) (rs : List X) → def s (r ∷ rs) ≡ more s r (def (s + 1) rs)) → (d : X) → i < length t → FromHere
+  pub one_on : (more : ℕ → X → R → R) → ((s : ℕ) (r : X) (rs : List X) → def s (r ∷ rs) ≡ more s r (def (s + 1) rs)) → (d : X) → i < length t → FromHere def t i
       → more (i + 1) (get_or t i d) (def (i + 1 + 1) (drop (i + 1) t)) ≡ def 1 t
   one_on more cons d l here =
       ap (λ (k : ℕ). more (i + 1) (get_or t i d) (def (i + 1 + 1) (drop k t))) (add-one i)
       ∙ sym (ap (def (i + 1)) (drop-cons t i d l) ∙ cons (i + 1) (get_or t i d) (drop (suc i) t)) ∙ here
 
-  pub at_end : length t ≤ i → FromHere → def (i + 1) [] ≡ def 1 t
+  pub at_end : length t ≤ i → FromHere def t i → def (i + 1) [] ≡ def 1 t
   at_end l here = sym (ap (def (i + 1)) (drop_of_length-le t l)) ∙ here
 
 module _ {A : Type 0} {g : ℕ → A → Bool} {f : ℕ → List A → Bool} (scan : Scan g f) where

@@ -1,0 +1,2 @@
+-- What a walk along a list keeps.
+pub mod Walks
