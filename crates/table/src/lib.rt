@@ -97,13 +97,13 @@ pub fn step(table: &mut [Station], n: usize, step: Step) -> Result<(), Refusal>
     act_on(table, n, step, i, j)
 }
 
-// The index of the first record in Holding.
+// The index of the first record in Holding. It reads the places alone, and not each head by `is_in`.
 fn seat_in_holding(table: &[Station]) -> Option<usize>
     ensures { result ≡ position (λ station. nat_eq station.head.place HOLDING) table.now }
 {
     table
         .iter()
-        .position(|station| station.head.is_in(Place::Holding))
+        .position(|station| station.head.place == Place::Holding as u8)
 }
 
 // The station that holds the turn, the lowest one in a table that has several.
